@@ -1,0 +1,4 @@
+pub mod Chars
+pub mod Breaks
+pub mod CharCells
+pub mod Examples

@@ -1,0 +1,49 @@
+// The measure of lines as Unicode breaks them: after LF, VT, FF, CR, CR LF, NEL, LS and PS.
+ghost use mathlib.Core.Path.{_≡_};
+ghost use Rattle.measures.specs.Breaks.{unicodeBreaks, broken, lineEnds, lineWeight};
+use crate::near::CR;
+use crate::near::FF;
+use crate::near::LF;
+use crate::near::VT;
+use crate::near::byte_back;
+use cells::Measure;
+use utf8::Checked;
+
+#[derive(Clone, Copy)]
+pub struct Lines;
+
+// Whether a break ends at a place; none ends between CR and LF.
+pub fn break_ends(text: Checked<'_>, place: usize) -> bool
+    ensures { λ r. ⌜ r ≡ broken unicodeBreaks (now (text .entry .bytes)) place ⌝ }
+{
+    let bytes = text.bytes();
+    let before = byte_back(bytes, 1, place);
+    if before == LF || before == VT || before == FF {
+        return true;
+    }
+    if before == CR {
+        return byte_back(bytes, 0, place) != LF;
+    }
+    let second = byte_back(bytes, 2, place);
+    if before == 0x85 {
+        return second == 0xC2;
+    }
+    if before == 0xA8 || before == 0xA9 {
+        return second == 0x80 && byte_back(bytes, 3, place) == 0xE2;
+    }
+    false
+}
+
+pub impl Measure for Lines as LinesMeasure {
+    ghost ends = { lineEnds unicodeBreaks };
+
+    ghost weight = { lineWeight unicodeBreaks };
+
+    fn ends_at(&self, text: Checked<'_>, place: usize) -> bool {
+        break_ends(text, place) || place > 0 && place == text.len()
+    }
+
+    fn weight_at(&self, text: Checked<'_>, place: usize) -> usize {
+        break_ends(text, place) as usize
+    }
+}

@@ -1,0 +1,35 @@
+// The measure of lines that end after LF, CR and CR LF.
+ghost use mathlib.Core.Path.{_≡_};
+ghost use Rattle.measures.specs.Breaks.{crlfBreaks, broken, lineEnds, lineWeight};
+use crate::near::CR;
+use crate::near::LF;
+use crate::near::byte_back;
+use cells::Measure;
+use utf8::Checked;
+
+#[derive(Clone, Copy)]
+pub struct LinesCrlf;
+
+// Whether a break ends at a place; none ends between CR and LF.
+pub fn break_ends(text: Checked<'_>, place: usize) -> bool
+    ensures { λ r. ⌜ r ≡ broken crlfBreaks (now (text .entry .bytes)) place ⌝ }
+{
+    let bytes = text.bytes();
+    let after = byte_back(bytes, 0, place);
+    let before = byte_back(bytes, 1, place);
+    before == LF || before == CR && after != LF
+}
+
+pub impl Measure for LinesCrlf as LinesCrlfMeasure {
+    ghost ends = { lineEnds crlfBreaks };
+
+    ghost weight = { lineWeight crlfBreaks };
+
+    fn ends_at(&self, text: Checked<'_>, place: usize) -> bool {
+        break_ends(text, place) || place > 0 && place == text.len()
+    }
+
+    fn weight_at(&self, text: Checked<'_>, place: usize) -> usize {
+        break_ends(text, place) as usize
+    }
+}
