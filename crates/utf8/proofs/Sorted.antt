@@ -1,31 +1,16 @@
--- A table whose entries pass one test, which antt computes, has the kind of each byte at its place.
--- Assumes nothing.
-use mathlib.Core.Path.{_≡_, refl, sym, ap, _∙_}
-use mathlib.Core.Bool.{Bool}
+-- A table that passes the one test has the kind of each byte at its place. Assumes nothing.
+use mathlib.Core.Path.{_≡_, refl, sym, ap, subst, _∙_}
+use mathlib.Core.Bool.{Bool, true, false, cond}
 use mathlib.Core.List.{List, [], _∷_}
-use Prim.Native.Nat.{ℕ, _<_}
+use Prim.Native.Nat.{ℕ, zero, suc, _+_, _<_}
+use native.Mathlib.Nat.{add-zero, zero-add, add-suc, suc-add}
 use native.Mathlib.Omega.{arith}
-use lib.Dec.{T, eqb, eqb→eq}
+use lib.Dec.{eqb}
 use lib.ListN.{getD, length}
+use Rattle.std.proofs.shelf.Tests.{eqb-true}
 use Rattle.utf8.specs.declared.kind.ByteKind.{ByteKind}
 use Rattle.utf8.specs.declared.kind.ByteKind.the-variants.{One, TailLow, TailMid, TailHigh, Two, ThreeE0, Three, ThreeEd, FourF0, Four, FourF4, Never}
-use Rattle.utf8.specs.Kinds.{kindOf, Sorts}
-use Rattle.utf8.proofs.Table.{every, at}
-
--- kinds told apart by numbers
-abbrev code : ByteKind → ℕ
-code One = 0
-code TailLow = 1
-code TailMid = 2
-code TailHigh = 3
-code Two = 4
-code ThreeE0 = 5
-code Three = 6
-code ThreeEd = 7
-code FourF0 = 8
-code Four = 9
-code FourF4 = 10
-code Never = 11
+use Rattle.utf8.specs.Kinds.{kindOf, code, sortsFrom, sorts}
 
 back : ℕ → ByteKind
 back n = getD (One ∷ TailLow ∷ TailMid ∷ TailHigh ∷ Two ∷ ThreeE0 ∷ Three ∷ ThreeEd ∷ FourF0 ∷ Four ∷ FourF4 ∷ Never ∷ []) n Never
@@ -45,13 +30,21 @@ there Four = refl
 there FourF4 = refl
 there Never = refl
 
-abbrev right : ℕ → ByteKind → Bool
-right b k = eqb (code k) (code (kindOf b))
+same : (k l : ByteKind) → eqb (code k) (code l) ≡ true → k ≡ l
+same k l e = sym (there k) ∙ ap back (eqb-true (code k) (code l) e) ∙ there l
 
--- a table of 256 kinds that passes the test sorts all bytes
-pub sorts : (table : List ByteKind) → T (every right 0 table) → length table ≡ 256 → Sorts table
-sorts table t l = record {
-  each = λ b h.
-      let e : code (getD table b One) ≡ code (kindOf b) = eqb→eq _ _ (at right table t b One (omega arith)) in
-      sym (there (getD table b One)) ∙ ap back e ∙ there (kindOf b);
-}
+passes : (a b : Bool) → cond a b false ≡ true → (a ≡ true) × (b ≡ true)
+passes true b e = (refl, e)
+passes false b e = (e, absurd (let z : _≡_ {A = ℕ} 0 1 = cc in omega arith))
+
+from : (table : List ByteKind) (b : ℕ) → sortsFrom b table ≡ true → (i : ℕ) (d : ByteKind) → i < length table → getD table i d ≡ kindOf (b + i)
+from [] b e i d h = absurd (omega arith)
+from (k ∷ table) b e zero d h = same k (kindOf b) (passes (eqb (code k) (code (kindOf b))) _ e .0) ∙ ap kindOf (sym (add-zero b))
+from (k ∷ table) b e (suc i) d h =
+    from table (suc b) (passes (eqb (code k) (code (kindOf b))) _ e .1) i d (omega arith) ∙ ap kindOf (suc-add b i ∙ sym (add-suc b i))
+
+pub sorted : (table : List ByteKind) → sorts table ≡ true → (b : ℕ) (d : ByteKind) → b < 256 → getD table b d ≡ kindOf b
+sorted table e b d h =
+    let p = passes (eqb (length table) 256) (sortsFrom 0 table) e in
+    let l : length table ≡ 256 = eqb-true (length table) 256 (p .0) in
+    from table 0 (p .1) b d (omega arith) ∙ ap kindOf (zero-add b)

@@ -1,6 +1,7 @@
 // The kinds of bytes that the check tells apart, and the one table that sorts all 256 bytes into them.
 ghost use mathlib.Core.Path.{_≡_};
-ghost use Rattle.utf8.specs.Kinds.{kindOf, Sorts};
+ghost use mathlib.Core.Bool.{true};
+ghost use Rattle.utf8.specs.Kinds.{kindOf, sorts};
 
 #[derive(Clone, Copy, Debug, PartialEq, Eq)]
 pub enum ByteKind {
@@ -285,7 +286,7 @@ const KINDS: &[ByteKind; 256] = &[
 
 // The table: each byte's kind stands at its place.
 pub fn kinds() -> &'static [ByteKind; 256]
-    ensures { λ r. ⌜ Sorts (now r) ⌝ }
+    ensures { λ r. ⌜ sorts (now r) ≡ true ⌝ }
 {
     KINDS
 }
