@@ -1,3 +1,4 @@
 pub mod Near
 pub mod Cells
 pub mod Starts
+pub mod LineCells

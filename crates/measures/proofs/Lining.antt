@@ -1,22 +1,26 @@
 -- The laws of lines, for every set of breaks that are texts of one to four bytes, none of them 00. Assumes nothing.
 use mathlib.Core.Path.{_≡_, refl, sym, ap, subst, _∙_}
-use mathlib.Core.List.{List, [], _∷_}
+use mathlib.Core.List.{List, [], _∷_, _++_}
 use mathlib.Core.Bool.{Bool, true, false, cond, _&&_, _||_, not}
 use mathlib.Core.Logic.{_⊎_, ⊎-elim}
-use Prim.Native.Nat.{ℕ, zero, suc, _+_, _-_, _≤_, _<_}
+use Prim.Native.Nat.{ℕ, zero, suc, _+_, _-_, _≤_, _<_, max}
 use native.Mathlib.Omega.{arith}
 use lib.Dec.{leb, ltb, eqb}
-use lib.ListN.{length, getD}
-use Rattle.std.proofs.shelf.Tests.{cases-lt, both-ways, lt-ltb, le-leb, leb-true, ltb-true, eq-eqb, ne-eqb, eqb-true, cond-true, cond-false, cond-both, and-parts, and-from, and-left, and-right, or-cases, or-left, or-right, or-parts, or-from}
+use lib.ListN.{length, getD, length-append}
+use Rattle.std.proofs.shelf.Lists.{getD-append-left}
+use Rattle.std.proofs.shelf.Tests.{cases-lt, both-ways, lt-ltb, le-leb, leb-true, ltb-true, eq-eqb, ne-eqb, eqb-true, cond-true, cond-false, cond-both, and-parts, and-from, and-left, and-right, or-cases, or-left, or-right, or-parts, or-from, not-from-true}
 use Rattle.utf8.specs.FirstFault.{isText}
 use Rattle.utf8.specs.Grammar.{Text}
-use Rattle.utf8.specs.Places.{charStart}
-use Rattle.utf8.proofs.Cuts.{Cut, start-from-cut, text-ends}
+use Rattle.utf8.specs.Grammar.Text.{none, more}
+use Rattle.utf8.specs.Places.{follower, charStart}
+use Rattle.utf8.proofs.Cuts.{Cut, Shape, shape, follower-at, start-from-cut, text-ends, wide}
 use Rattle.utf8.proofs.Means.{text-from-test}
 use Rattle.cells.specs.Cells.{Lawful}
+use Rattle.cells.specs.LineCells.{LawfulBreaks}
+use Rattle.cells.specs.Starts.{Joint}
 use Rattle.cells.specs.Near.{around, lastFour, back}
-use Rattle.cells.proofs.Near.{near-back, last-back, standing}
-use Rattle.measures.specs.Breaks.{endsAt, someEnds, inCrlf, broken, lineEnds, lineWeight}
+use Rattle.cells.proofs.Near.{near-back, last-back, back-in, standing}
+use Rattle.measures.specs.Breaks.{endsAt, someEnds, inCrlf, broken, lineEnds, lineWeight, longest, breakLength}
 
 abbrev noZero : List ℕ → Bool
 noZero [] = true
@@ -148,4 +152,102 @@ module _ (breaks : List (List ℕ)) (fair : allProper breaks ≡ true) where
     nearEnds = λ t u p q wt wu zp hp zq hq e. ends-in t p hp ∙ near t u p q hp hq e ∙ sym (ends-in u q hq);
     nearWeight = λ t u p q wt wu zp hp zq hq e. ap (λ (b : Bool). cond b 1 0) (near t u p q hp hq e);
     lastWeight = λ t u wt wu zt zu e. ap (λ (b : Bool). cond b 1 0) (same-broken t u (length t) (length u) (λ i l. last-back t u i l e) breaks fair);
+  }
+
+-- ---- how long a break is
+-- one char of one to three bytes, or CR LF
+abbrev oneChar : List ℕ → Bool
+oneChar s = eqb (length s) (wide (getD s 0 0)) && leb (length s) 3
+
+abbrev crlf : List ℕ → Bool
+crlf s = eqb (length s) 2 && (eqb (getD s 0 0) 0x0D && eqb (getD s 1 0) 0x0A)
+
+abbrev pub allWhole : List (List ℕ) → Bool
+allWhole [] = true
+allWhole (s ∷ breaks) = (oneChar s || crlf s) && allWhole breaks
+
+-- a text as long as its first byte says is one char, and what follows that byte are followers
+one-shape : {s : List ℕ} → Text s → 0 < length s → length s ≡ wide (getD s 0 0) → (i : ℕ) → 0 < i → i < length s → follower (getD s i 0) ≡ true
+one-shape none z e i a h = absurd (omega arith)
+one-shape (more {cs = cs} {bs = bs} g b) z e i a h =
+    let s = shape g in
+    let l = length-append cs bs in
+    let some : 0 < length cs = subst (λ (xs : List ℕ). 0 < length xs) (sym (s .is)) (omega arith) in
+    let first : getD (cs ++ bs) 0 0 ≡ s .first = getD-append-left cs bs 0 0 some ∙ ap (λ (xs : List ℕ). getD xs 0 0) (s .is) in
+    let whole : length (cs ++ bs) ≡ length cs = e ∙ ap wide first ∙ sym (s .long) in
+    ap follower (getD-append-left cs bs 0 i (omega arith)) ∙ tail-at s i a (omega arith)
+  where
+    tail-at : Shape cs → (i : ℕ) → 0 < i → i < length cs → follower (getD cs i 0) ≡ true
+    tail-at s zero a h = absurd (omega arith)
+    tail-at s (suc i) a h =
+        let l : length cs ≡ suc (length (s .rest)) = ap length (s .is) in
+        ap (λ (xs : List ℕ). follower (getD xs (suc i) 0)) (s .is) ∙ follower-at (s .rest) i (s .tail) (omega arith)
+
+short : (s : List ℕ) → (oneChar s || crlf s) ≡ true → length s ≤ 3
+short s e =
+    ⊎-elim
+    (λ (a : oneChar s ≡ true). leb-true (length s) 3 (and-parts (eqb (length s) (wide (getD s 0 0))) (leb (length s) 3) a .1))
+    (λ (a : crlf s ≡ true). omega (arith, eqb-true (length s) 2 (and-parts (eqb (length s) 2) _ a .0)))
+    (or-cases (oneChar s) (crlf s) e)
+
+longest-short : (breaks : List (List ℕ)) → allWhole breaks ≡ true → (t : List ℕ) (p : ℕ) → longest breaks t p ≤ 3
+longest-short [] e t p = omega arith
+longest-short (s ∷ breaks) e t p =
+    let a = and-parts (oneChar s || crlf s) (allWhole breaks) e in
+    let rest = longest-short breaks (a .1) t p in
+    let here = short s (a .0) in
+    cond-both (endsAt s t p) (max (length s) (longest breaks t p)) (longest breaks t p) (λ (n : ℕ). n ≤ 3) (λ _. omega arith) (λ _. rest)
+
+module _ (breaks : List (List ℕ)) (fair : allProper breaks ≡ true) where
+  -- the byte i of a break that ends at q, read off the text
+  byte-of : (s t : List ℕ) (p q i : ℕ) → Proper s → endsAt s t q ≡ true → i < length s → p + length s ≡ q + i → (p < length t) × (getD t p 0 ≡ getD s i 0)
+  byte-of s t p q i b e h n =
+      let is = ends-each s t q e i h in
+      let w = standing (length s - i) t q (subst (λ (x : ℕ). 0 < x) (sym is) (no-zero-at s i (b .full) h)) in
+      let k : q - (length s - i) ≡ p = omega (arith, w .far) in
+      (omega (arith, w .in-text), ap (λ (j : ℕ). getD t j 0) (sym k) ∙ sym (w .is) ∙ is)
+
+  -- no line begins inside a break
+  apart : (s t : List ℕ) (p q : ℕ) → Proper s → (oneChar s || crlf s) ≡ true → Text t → endsAt s t q ≡ true → Joint (lineEnds breaks) (lineWeight breaks) t p → p < q → p + length s ≤ q
+  apart s t p q b o u e j h =
+      ⊎-elim
+      (λ (lt : q < p + length s).
+      let far : length s ≤ q = omega (arith, standing (length s - 0) t q (subst (λ (x : ℕ). 0 < x) (sym (ends-each s t q e 0 (b .some))) (no-zero-at s 0 (b .full) (b .some))) .far) in
+      let at = byte-of s t p q (p + length s - q) b e (omega arith) (omega arith) in
+      let ends : lineEnds breaks t p ≡ true = ⊎-elim (λ (z : p ≡ 0). absurd (omega arith)) (λ f. f) j in
+      absurd
+      (⊎-elim
+      (λ (a : oneChar s ≡ true).
+      let w : length s ≡ wide (getD s 0 0) = eqb-true (length s) (wide (getD s 0 0)) (and-parts (eqb (length s) (wide (getD s 0 0))) (leb (length s) 3) a .0) in
+      both-ways (follower (getD t p 0)) (ends-cut-at breaks fair t p u ends .1 (at .0)) (ap follower (at .1) ∙ one-shape (b .text) (b .some) w (p + length s - q) (omega arith) (omega arith)))
+      (λ (a : crlf s ≡ true).
+      let l = and-parts (eqb (length s) 2) (eqb (getD s 0 0) 0x0D && eqb (getD s 1 0) 0x0A) a in
+      let m = and-parts (eqb (getD s 0 0) 0x0D) (eqb (getD s 1 0) 0x0A) (l .1) in
+      let two : length s ≡ 2 = eqb-true (length s) 2 (l .0) in
+      let n : p + length s - q ≡ 1 = omega arith in
+      let first = byte-of s t (p - 1) q 0 b e (b .some) (omega arith) in
+      let before : back 1 t p ≡ 0x0D = back-in 1 t p (omega arith) ∙ first .1 ∙ eqb-true (getD s 0 0) 0x0D (m .0) in
+      let after : back 0 t p ≡ 0x0A = at .1 ∙ ap (λ (k : ℕ). getD s k 0) n ∙ eqb-true (getD s 1 0) 0x0A (m .1) in
+      both-ways (broken breaks t p)
+      (and-right (someEnds breaks t p) (not (inCrlf t p)) (not-from-true (inCrlf t p) (and-from (eqb (back 1 t p) 0x0D) (eqb (back 0 t p) 0x0A) (eq-eqb (back 1 t p) 0x0D before) (eq-eqb (back 0 t p) 0x0A after))))
+      (sym (ends-in breaks fair t p (at .0)) ∙ ends))
+      (or-cases (oneChar s) (crlf s) o)))
+      (λ (ge : p + length s ≤ q). ge)
+      (cases-lt q (p + length s))
+
+  longest-apart : (some : List (List ℕ)) → allProper some ≡ true → allWhole some ≡ true → (t : List ℕ) (p q : ℕ) → Text t → Joint (lineEnds breaks) (lineWeight breaks) t p → p < q → p + longest some t q ≤ q
+  longest-apart [] f w t p q u j h = omega arith
+  longest-apart (s ∷ some) f w t p q u j h =
+      let a = and-parts (proper s) (allProper some) f in
+      let b = and-parts (oneChar s || crlf s) (allWhole some) w in
+      let rest = longest-apart some (a .1) (b .1) t p q u j h in
+      cond-both (endsAt s t q) (max (length s) (longest some t q)) (longest some t q) (λ (n : ℕ). p + n ≤ q)
+      (λ e. omega (arith, apart s t p q (proper-parts s (a .0)) (b .0) u e j h))
+      (λ _. rest)
+
+  pub line-breaks : allWhole breaks ≡ true → LawfulBreaks (lineEnds breaks) (lineWeight breaks) (breakLength breaks)
+  line-breaks whole = record {
+    none = λ t p u e. cond-false (broken breaks t p) (longest breaks t p) 0 (or-parts (broken breaks t p) (ltb 0 p && eqb p (length t)) e .0);
+    three = λ t p u. cond-both (broken breaks t p) (longest breaks t p) 0 (λ (n : ℕ). n ≤ 3) (λ _. longest-short breaks whole t p) (λ _. omega arith);
+    within = λ t p q u j e h. cond-both (broken breaks t q) (longest breaks t q) 0 (λ (n : ℕ). p + n ≤ q) (λ _. longest-apart breaks fair whole t p q u j h) (λ _. omega arith);
   }

@@ -1,7 +1,7 @@
 -- Lines, by the breaks that end them. Assumes nothing.
 use mathlib.Core.List.{List, [], _∷_}
 use mathlib.Core.Bool.{Bool, true, false, cond, _&&_, _||_, not}
-use Prim.Native.Nat.{ℕ}
+use Prim.Native.Nat.{ℕ, max}
 use lib.Dec.{ltb, eqb}
 use lib.ListN.{length}
 use Rattle.cells.specs.Near.{back}
@@ -12,7 +12,7 @@ LF = 0x0A ∷ []
 abbrev CR : List ℕ
 CR = 0x0D ∷ []
 
-abbrev CRLF : List ℕ
+abbrev pub CRLF : List ℕ
 CRLF = 0x0D ∷ 0x0A ∷ []
 
 -- the breaks of lines_lf
@@ -54,3 +54,12 @@ lineEnds breaks t p = broken breaks t p || (ltb 0 p && eqb p (length t))
 -- an ended line weighs 1, an unended last line 0
 abbrev pub lineWeight : List (List ℕ) → List ℕ → ℕ → ℕ
 lineWeight breaks t p = cond (broken breaks t p) 1 0
+
+-- the longest of the breaks that stand right before place p
+abbrev pub longest : List (List ℕ) → List ℕ → ℕ → ℕ
+longest [] t p = 0
+longest (s ∷ breaks) t p = cond (endsAt s t p) (max (length s) (longest breaks t p)) (longest breaks t p)
+
+-- the length of the break that ends at place p, 0 where none does
+abbrev pub breakLength : List (List ℕ) → List ℕ → ℕ → ℕ
+breakLength breaks t p = cond (broken breaks t p) (longest breaks t p) 0

@@ -1,11 +1,13 @@
 // The measure of lines as Unicode breaks them: after LF, VT, FF, CR, CR LF, NEL, LS and PS.
 ghost use mathlib.Core.Path.{_≡_};
-ghost use Rattle.measures.specs.Breaks.{unicodeBreaks, broken, lineEnds, lineWeight};
+ghost use Rattle.measures.specs.Breaks.{unicodeBreaks, broken, lineEnds, lineWeight, breakLength};
 use crate::near::CR;
 use crate::near::FF;
 use crate::near::LF;
 use crate::near::VT;
 use crate::near::byte_back;
+use crate::near::crlf_before;
+use cells::LineMeasure;
 use cells::Measure;
 use utf8::Checked;
 
@@ -45,5 +47,24 @@ pub impl Measure for Lines as LinesMeasure {
 
     fn weight_at(&self, text: Checked<'_>, place: usize) -> usize {
         break_ends(text, place) as usize
+    }
+}
+
+pub impl LineMeasure for Lines as LinesLineMeasure {
+    ghost breakLength = { breakLength unicodeBreaks };
+
+    fn break_length_at(&self, text: Checked<'_>, place: usize) -> usize {
+        if !break_ends(text, place) {
+            return 0;
+        }
+        let bytes = text.bytes();
+        if crlf_before(bytes, place) {
+            return 2;
+        }
+        let before = byte_back(bytes, 1, place);
+        if before < 0x80 {
+            return 1;
+        }
+        if before == 0x85 { 2 } else { 3 }
     }
 }

@@ -1,9 +1,11 @@
 // The measure of lines that end after LF, CR and CR LF.
 ghost use mathlib.Core.Path.{_≡_};
-ghost use Rattle.measures.specs.Breaks.{crlfBreaks, broken, lineEnds, lineWeight};
+ghost use Rattle.measures.specs.Breaks.{crlfBreaks, broken, lineEnds, lineWeight, breakLength};
 use crate::near::CR;
 use crate::near::LF;
 use crate::near::byte_back;
+use crate::near::crlf_before;
+use cells::LineMeasure;
 use cells::Measure;
 use utf8::Checked;
 
@@ -31,5 +33,20 @@ pub impl Measure for LinesCrlf as LinesCrlfMeasure {
 
     fn weight_at(&self, text: Checked<'_>, place: usize) -> usize {
         break_ends(text, place) as usize
+    }
+}
+
+pub impl LineMeasure for LinesCrlf as LinesCrlfLineMeasure {
+    ghost breakLength = { breakLength crlfBreaks };
+
+    fn break_length_at(&self, text: Checked<'_>, place: usize) -> usize {
+        if !break_ends(text, place) {
+            return 0;
+        }
+        if crlf_before(text.bytes(), place) {
+            2
+        } else {
+            1
+        }
     }
 }

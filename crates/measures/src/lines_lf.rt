@@ -1,8 +1,9 @@
 // The measure of lines that end after LF.
 ghost use mathlib.Core.Path.{_≡_};
-ghost use Rattle.measures.specs.Breaks.{lfBreaks, broken, lineEnds, lineWeight};
+ghost use Rattle.measures.specs.Breaks.{lfBreaks, broken, lineEnds, lineWeight, breakLength};
 use crate::near::LF;
 use crate::near::byte_back;
+use cells::LineMeasure;
 use cells::Measure;
 use utf8::Checked;
 
@@ -27,5 +28,13 @@ pub impl Measure for LinesLf as LinesLfMeasure {
 
     fn weight_at(&self, text: Checked<'_>, place: usize) -> usize {
         break_ends(text, place) as usize
+    }
+}
+
+pub impl LineMeasure for LinesLf as LinesLfLineMeasure {
+    ghost breakLength = { breakLength lfBreaks };
+
+    fn break_length_at(&self, text: Checked<'_>, place: usize) -> usize {
+        usize::from(break_ends(text, place))
     }
 }

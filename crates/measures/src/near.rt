@@ -1,6 +1,7 @@
 // Bytes near a place.
 ghost use mathlib.Core.Path.{_≡_};
 ghost use Rattle.cells.specs.Near.{back};
+ghost use Rattle.measures.specs.Breaks.{CRLF, endsAt};
 
 pub const LF: u8 = 0x0A;
 
@@ -18,4 +19,11 @@ pub fn byte_back(text: &[u8], places: usize, place: usize) -> u8
         return 0;
     }
     text[place - places]
+}
+
+// Whether CR LF stands right before a place.
+pub fn crlf_before(text: &[u8], place: usize) -> bool
+    ensures { λ r. ⌜ r ≡ endsAt CRLF (now (text .entry)) place ⌝ }
+{
+    byte_back(text, 2, place) == CR && byte_back(text, 1, place) == LF
 }
