@@ -1,0 +1,7 @@
+use Prim.Native.Nat.{_+_, _<_}
+use native.Mathlib.Omega.{arith}
+use Rattle.chunk.proofs.Rows.{each2-from-at}
+use Rattle.rows.proofs.play.sums_fit.Needs as need
+
+pub returns : need.returns
+returns g c e = each2-from-at (λ x y. x + y < 256) _ _ (g .K·ByteChunk·met .row (c .args .a)) (λ k h. c .loop-i .inv k (omega arith))
