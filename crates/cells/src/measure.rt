@@ -2,8 +2,9 @@
 ghost use mathlib.Core.Path.{_≡_};
 ghost use mathlib.Core.List.{List};
 ghost use mathlib.Core.Bool.{Bool};
-ghost use Prim.Native.Nat.{ℕ};
-ghost use Rattle.cells.specs.Cells.{Lawful};
+ghost use Prim.Native.Nat.{ℕ, _-_};
+ghost use Rattle.cells.specs.Cells.{Lawful, index};
+use chunk::ByteChunk;
 use utf8::Checked;
 
 pub trait Measure {
@@ -20,4 +21,9 @@ pub trait Measure {
 
     fn weight_at(&self, text: Checked<'_>, place: usize) -> usize
         ensures { λ r. ⌜ r ≡ weight (now (text .entry .bytes)) place ⌝ };
+
+    // The summed weight of the cells that end after place a and at or before place b, 0 if a is not below b; counted by
+    // chunks of the kind K after the first `head` bytes, whatever that is. A place past the length stands for the length.
+    fn sum<K: ByteChunk>(&self, text: Checked<'_>, a: usize, b: usize, head: usize) -> usize
+        ensures { λ r. ⌜ r ≡ index weight (now (text .entry .bytes)) b - index weight (now (text .entry .bytes)) a ⌝ };
 }

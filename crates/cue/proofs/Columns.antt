@@ -7,7 +7,7 @@ use Prim.Native.Nat.{ℕ, _+_, _≤_, _<_, _-_, _^_, min}
 use native.Mathlib.Omega.{arith}
 use lib.Dec.{ltb}
 use lib.ListN.{length}
-use Rattle.std.proofs.shelf.Tests.{cases-lt, cond-true, cond-false, lt-ltb, le-ltb}
+use Rattle.std.proofs.shelf.Tests.{cases-lt, cond-false, le-ltb}
 use Rattle.utf8.specs.FirstFault.{isText}
 use Rattle.utf8.proofs.Means.{text-from-test}
 use Rattle.cells.specs.Cells.{Lawful, index, count, start}
@@ -18,10 +18,6 @@ use Rattle.measures.proofs.Charring.{unit-lawful}
 use Rattle.cue.specs.Places.{columnPlace}
 
 module _ (t : List ℕ) (sound : isText t ≡ true) (line column : ℕ) where
-  -- there is no such line
-  pub no-line : (r n : ℕ) → r ≡ length t → n ≡ count (lineWeight crlfBreaks) t → n < line → r ≡ columnPlace t line column
-  no-line r n e f h = e ∙ sym (cond-true (ltb (count (lineWeight crlfBreaks) t) line) _ _ (lt-ltb (count (lineWeight crlfBreaks) t) line (omega arith)))
-
   -- a sum that does not fit is above the count, and so is the largest number that does
   capped : (before k : ℕ) → length t < 2 ^ 63 → k ≡ min (before + column) (2 ^ 64 - 1) → start unitWeight t k ≡ start unitWeight t (before + column)
   capped before k short e =

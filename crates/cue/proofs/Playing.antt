@@ -14,6 +14,7 @@ use Rattle.std.specs.declared.result.Result.the-variants.{Ok, Err}
 use Rattle.faults.specs.declared.cue.Fault.{Fault}
 use Rattle.faults.specs.declared.cue.Cause.the-variants.{Check, Cut}
 use Rattle.faults.specs.declared.check.Fault as check
+use Rattle.faults.specs.declared.count.Fault as count
 use Rattle.utf8.specs.FirstFault.{firstFault}
 use Rattle.cue.specs.declared.record.Cue.{Cue}
 use Rattle.cue.specs.declared.record.Record.{Record}
@@ -126,3 +127,7 @@ pub not-text : (text cues : List ℕ) (f : check.Fault) → length text ≤ 1638
 not-text text cues f h e =
     ap (λ (b : Bool). orElse (cond b (Some (tooLarge 16384)) None) (orElse (noText (firstFault text)) (larger 4096 cues))) (le-ltb 16384 (length text) h)
     ∙ ap (λ (o : Option check.Fault). orElse (noText o) (larger 4096 cues)) e
+
+-- an answer is the one that was promised
+pub same-answer : {a b : ℕ} → _≡_ {A = Result ℕ count.Fault} (Ok a) (Ok b) → a ≡ b
+same-answer e = cc

@@ -10,6 +10,7 @@ use crate::place::place_of;
 use crate::record::Cue;
 use crate::record::record_at;
 use crate::stop::FromAlloc;
+use crate::stop::FromCount;
 use crate::stop::FromFault;
 use crate::stop::Stop;
 use faults::cue::Cause;
@@ -78,7 +79,8 @@ fn play(out: &mut String, heap: Global, text: Checked<'_>, cues: &[u8]) -> Resul
     let mut number = 0;
     while let Some(record) = record_at(cues, at)? {
         number += 1;
-        add_line(out, heap, number, record.cue, place_of(text, record.cue))?;
+        let place = place_of(text, record.cue)?;
+        add_line(out, heap, number, record.cue, place)?;
         at = record.next;
     }
     Ok(())

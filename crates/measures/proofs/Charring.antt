@@ -21,17 +21,17 @@ use Rattle.measures.specs.Chars.{charEnds, charWeight, fourBytes, unitWeight}
 use Rattle.measures.specs.CharCells.{CharCell, CharCells}
 
 -- inside a text a cell ends where no follower stands
-ends-in : (t : List ℕ) (p : ℕ) → 0 < p → p < length t → charEnds t p ≡ not (follower (getD t p 0))
+pub ends-in : (t : List ℕ) (p : ℕ) → 0 < p → p < length t → charEnds t p ≡ not (follower (getD t p 0))
 ends-in t p z h =
     ap (λ (b : Bool). b && charStart t p) (lt-ltb 0 p z)
     ∙ ap (λ (b : Bool). b || (eqb p (length t) || (ltb p (length t) && not (follower (getD t p 0))))) (ne-eqb p 0 (λ e. omega arith))
     ∙ ap (λ (b : Bool). b || (ltb p (length t) && not (follower (getD t p 0)))) (ne-eqb p (length t) (λ e. omega arith))
     ∙ ap (λ (b : Bool). b && not (follower (getD t p 0))) (lt-ltb p (length t) h)
 
-ends-from-cut : (t : List ℕ) (p : ℕ) → 0 < p → Cut t p → charEnds t p ≡ true
+pub ends-from-cut : (t : List ℕ) (p : ℕ) → 0 < p → Cut t p → charEnds t p ≡ true
 ends-from-cut t p z c = and-from (ltb 0 p) (charStart t p) (lt-ltb 0 p z) (start-from-cut t p c)
 
-ends-last : (t : List ℕ) → 0 < length t → charEnds t (length t) ≡ true
+pub ends-last : (t : List ℕ) → 0 < length t → charEnds t (length t) ≡ true
 ends-last t z = ends-from-cut t (length t) z (omega arith, λ h. absurd (omega arith))
 
 ends-start : (t : List ℕ) (p : ℕ) → charEnds t p ≡ true → charStart t p ≡ true
@@ -76,7 +76,7 @@ wide-most b = grind (arith, tells)
 wide-four : (b : ℕ) → wide b ≡ 4 → 0xF0 ≤ b
 wide-four b e = grind (arith, tells)
 
-high-lead : (b : ℕ) → 0xF0 ≤ b → (follower b ≡ false) × (wide b ≡ 4)
+pub high-lead : (b : ℕ) → 0xF0 ≤ b → (follower b ≡ false) × (wide b ≡ 4)
 high-lead b h = (grind (arith, tells), grind (arith, tells))
 
 module _ (before c after : List ℕ) (u : Text before) (ch : Char c) (v : Text after) where

@@ -20,3 +20,7 @@ fourBytes t p = leb 0xF0 (back 4 t p)
 -- a char of four bytes takes two units of UTF-16 (RFC 2781), any other takes one
 abbrev pub unitWeight : List ℕ → ℕ → ℕ
 unitWeight t p = cond (charEnds t p) (cond (fourBytes t p) 2 1) 0
+
+-- a char of four bytes, which takes a surrogate pair, weighs 1, any other nothing
+abbrev pub pairWeight : List ℕ → ℕ → ℕ
+pairWeight t p = cond (charEnds t p && fourBytes t p) 1 0

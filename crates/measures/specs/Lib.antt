@@ -1,4 +1,5 @@
 pub mod Chars
 pub mod Breaks
+pub mod Counts
 pub mod CharCells
 pub mod Examples

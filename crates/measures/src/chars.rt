@@ -2,7 +2,12 @@
 ghost use mathlib.Core.Path.{_≡_};
 ghost use Rattle.measures.specs.Chars.{charEnds, charWeight};
 ghost use Rattle.measures.specs.CharCells.{CharCells};
+ghost use Rattle.measures.specs.Counts.{leads, inChar};
 use cells::Measure;
+use chunk::ByteChunk;
+use counted::Counted;
+use counted::sum;
+use scan::Scan;
 use utf8::Checked;
 
 #[derive(Clone, Copy)]
@@ -19,6 +24,32 @@ pub fn char_ends(text: Checked<'_>, place: usize) -> bool
     place == bytes.len() || bytes[place] < 0x80 || bytes[place] > 0xBF
 }
 
+pub impl Scan for Chars as CharsScan {
+    ghost hit = { leads };
+
+    fn single(_far: u8, _near: u8, byte: u8) -> bool {
+        byte < 0x80 || byte > 0xBF
+    }
+
+    fn flags<K: ByteChunk>(_far: K, _near: K, row: K) -> K {
+        let tops = row.bitand(K::splat(0xC0));
+        let trailing = tops.cmp_eq_byte(0x80);
+        K::splat(1).sub(trailing)
+    }
+}
+
+pub impl Counted for Chars as CharsCounted {
+    ghost ends = { charEnds };
+
+    ghost weight = { charWeight };
+
+    ghost split = { inChar };
+
+    fn splits(_near: u8, byte: u8) -> bool {
+        byte >= 0x80 && byte <= 0xBF
+    }
+}
+
 pub impl Measure for Chars as CharsMeasure {
     ghost ends = { charEnds };
 
@@ -30,6 +61,10 @@ pub impl Measure for Chars as CharsMeasure {
 
     fn weight_at(&self, text: Checked<'_>, place: usize) -> usize {
         char_ends(text, place) as usize
+    }
+
+    fn sum<K: ByteChunk>(&self, text: Checked<'_>, a: usize, b: usize, head: usize) -> usize {
+        sum::<Chars, K>(text, a, b, head)
     }
 }
 

@@ -4,5 +4,5 @@ pub mod examples;
 pub mod lines;
 pub mod lines_crlf;
 pub mod lines_lf;
-mod near;
+pub mod near;
 pub mod utf16;

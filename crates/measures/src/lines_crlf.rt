@@ -1,12 +1,17 @@
 // The measure of lines that end after LF, CR and CR LF.
 ghost use mathlib.Core.Path.{_≡_};
 ghost use Rattle.measures.specs.Breaks.{crlfBreaks, broken, lineEnds, lineWeight, breakLength};
+ghost use Rattle.measures.specs.Counts.{crlfHit, inBreak};
 use crate::near::CR;
 use crate::near::LF;
 use crate::near::byte_back;
 use crate::near::crlf_before;
 use cells::LineMeasure;
 use cells::Measure;
+use chunk::ByteChunk;
+use counted::Counted;
+use counted::sum;
+use scan::Scan;
 use utf8::Checked;
 
 #[derive(Clone, Copy)]
@@ -22,6 +27,33 @@ pub fn break_ends(text: Checked<'_>, place: usize) -> bool
     before == LF || before == CR && after != LF
 }
 
+pub impl Scan for LinesCrlf as LinesCrlfScan {
+    ghost hit = { crlfHit };
+
+    fn single(_far: u8, near: u8, byte: u8) -> bool {
+        (byte == CR) | ((byte == LF) & (near != CR))
+    }
+
+    fn flags<K: ByteChunk>(_far: K, near: K, row: K) -> K {
+        let lf = row.cmp_eq_byte(LF);
+        let cr = row.cmp_eq_byte(CR);
+        let second = near.cmp_eq_byte(CR).bitand(lf);
+        lf.add(cr).sub(second)
+    }
+}
+
+pub impl Counted for LinesCrlf as LinesCrlfCounted {
+    ghost ends = { lineEnds crlfBreaks };
+
+    ghost weight = { lineWeight crlfBreaks };
+
+    ghost split = { inBreak };
+
+    fn splits(near: u8, byte: u8) -> bool {
+        near == CR && byte == LF
+    }
+}
+
 pub impl Measure for LinesCrlf as LinesCrlfMeasure {
     ghost ends = { lineEnds crlfBreaks };
 
@@ -33,6 +65,10 @@ pub impl Measure for LinesCrlf as LinesCrlfMeasure {
 
     fn weight_at(&self, text: Checked<'_>, place: usize) -> usize {
         break_ends(text, place) as usize
+    }
+
+    fn sum<K: ByteChunk>(&self, text: Checked<'_>, a: usize, b: usize, head: usize) -> usize {
+        sum::<LinesCrlf, K>(text, a, b, head)
     }
 }
 

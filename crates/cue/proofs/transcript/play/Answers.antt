@@ -1,7 +1,7 @@
 use mathlib.Core.Path.{sym, ap, _∙_}
 use Rattle.std.specs.declared.result.Result.the-variants.{Ok}
 use Rattle.std.proofs.shelf.Results.{err-from-errBy}
-use Rattle.cue.proofs.Playing.{one-more, all-played, one-refused}
+use Rattle.cue.proofs.Playing.{one-more, all-played, one-refused, same-answer}
 use Rattle.cue.proofs.transcript.play.Needs as need
 
 pub returns-in-Break-record : need.returns-in-Break-record
@@ -11,7 +11,7 @@ returns-in-Break-record c =
 
 pub loop-record-again : need.loop-record-again
 loop-record-again c =
-    one-more (c .loop-record .inv) (c .in-Some .record) (c .place-of .result) _ (sym (c .in-Continue-record .ensures tt) ∙ ap Ok (c .in-Some .is)) (c .place-of .ensures) (c .in-Continue-add-line .ensures tt)
+    one-more (c .loop-record .inv) (c .in-Some .record) (c .in-Continue-place .place) _ (sym (c .in-Continue-record .ensures tt) ∙ ap Ok (c .in-Some .is)) (same-answer (c .in-Continue-place .ensures tt)) (c .in-Continue-add-line .ensures tt)
 
 pub returns : need.returns
 returns c = all-played (c .loop-record .inv) (sym (c .in-Continue-record .ensures tt) ∙ ap Ok (c .in-rest .is))

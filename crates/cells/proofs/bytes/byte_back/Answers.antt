@@ -1,7 +1,7 @@
 use mathlib.Core.Path.{sym}
 use Rattle.cells.proofs.Near.{back-in, back-out, back-off}
-use Rattle.measures.proofs.near.byte_back.Needs as need
-use Rattle.measures.proofs.near.byte_back.Needs.{then-place-places·by·then-place-places, then-place-places·by·else-place-places·then-place-places-2}
+use Rattle.cells.proofs.bytes.byte_back.Needs as need
+use Rattle.cells.proofs.bytes.byte_back.Needs.{then-place-places·by·then-place-places, then-place-places·by·else-place-places·then-place-places-2}
 
 pub returns-then-place-places : need.returns-then-place-places
 returns-then-place-places c = elim (c .then-place-places .came) [

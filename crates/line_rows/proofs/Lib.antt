@@ -1,0 +1,9 @@
+pub mod Counts
+pub mod Flags
+pub mod Edges
+pub mod Lanes
+pub mod Pending
+pub mod Rounds
+pub mod Rest
+pub mod Stepping
+pub mod Front

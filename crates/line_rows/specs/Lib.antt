@@ -1,0 +1,4 @@
+pub mod Begins
+pub mod Passing
+pub mod Marks
+pub mod Steps

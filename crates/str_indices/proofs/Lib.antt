@@ -1,0 +1,3 @@
+pub mod Crlf
+pub mod Fours
+pub mod Units
