@@ -6,10 +6,9 @@ use mathlib.Core.Logic.{_⊎_, ⊎-elim}
 use Prim.Native.Nat.{ℕ, zero, suc, _+_, _-_, _≤_, _<_, min}
 use native.Mathlib.Omega.{arith}
 use lib.ListN.{length}
-use mir.Val.{boolByte}
 use Rattle.std.proofs.shelf.Tests.{cases-lt}
 use Rattle.scan.specs.Marks.{Rule, counted}
-use Rattle.scan.proofs.Marking.{counted-on, counted-next, counted-most}
+use Rattle.scan.proofs.Marking.{flag-small, counted-on, counted-next, counted-most}
 use Rattle.utf8.specs.Grammar.{Text}
 use Rattle.cells.specs.Cells.{Lawful, index, count}
 use Rattle.cells.specs.Near.{back}
@@ -17,14 +16,6 @@ use Rattle.cells.proofs.Sums.{sum-mono}
 use Rattle.cells.proofs.Places.{sum-next}
 use Rattle.cells.proofs.Starts.{weight-zero, index-past}
 use Rattle.counted.specs.Linked.{Linked, ahead}
-
-pub flag-byte : (b : Bool) → boolByte b ≡ cond b 1 0
-flag-byte true = refl
-flag-byte false = refl
-
-flag-small : (b : Bool) → cond b 1 0 ≤ 1
-flag-small true = omega arith
-flag-small false = omega arith
 
 module _ {ends : List ℕ → ℕ → Bool} {weight : List ℕ → ℕ → ℕ} (laws : Lawful ends weight) (t : List ℕ) (well : Text t) where
   -- a place past the length stands for the length

@@ -9,6 +9,7 @@ use lib.ListN.{length, getD, take, drop, length-take, length-drop}
 use mir.Val.{boolByte}
 use Rattle.std.proofs.shelf.Lanes.{getD-chunk}
 use Rattle.std.proofs.shelf.Tests.{cases-lt}
+use Rattle.chunk.proofs.Rows.{flag-byte}
 use Rattle.scan.specs.Marks.{Rule, mark, counted}
 use Rattle.scan.proofs.Marking.{mark-byte, counted-on, counted-next, counted-most}
 use Rattle.utf8.specs.Grammar.{Text}
@@ -18,7 +19,7 @@ use Rattle.cells.proofs.Sums.{sum-mono}
 use Rattle.cells.proofs.Places.{sum-next}
 use Rattle.cells.proofs.Starts.{weight-zero, found-start, start-past, index-most}
 use Rattle.counted.specs.Linked.{Linked, ahead, Reached}
-use Rattle.counted.proofs.Linking.{linked-index, flag-byte}
+use Rattle.counted.proofs.Linking.{linked-index}
 
 -- byte i of the part of a text from a place to another
 pub record Part (t : List ℕ) (from to i : ℕ) : Type 0 where

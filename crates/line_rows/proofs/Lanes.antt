@@ -72,6 +72,10 @@ marks-at t p zero i h = absurd (not-suc-le-zero h)
 marks-at t p (suc n) zero h = let e : p ≡ p + 0 = omega arith in ap (λ (k : ℕ). flag (breakCounts t k)) e
 marks-at t p (suc n) (suc i) h = let e : suc p + i ≡ p + suc i = omega arith in marks-at t (suc p) n i (le-of-suc-le-suc h) ∙ ap (λ (k : ℕ). flag (breakCounts t k)) e
 
+-- the lanes of a row have all that counts there, and the CR of CR LF too
+pub record Summed (t : List ℕ) (place w : ℕ) (all : List ℕ) : Type 0 where
+  pub at : (i : ℕ) → i < w → getD all i 0 ≡ sum t (place + i)
+
 module _ {t row : List ℕ} {place w : ℕ} (at : RowAt t place w row) (nels seps : List ℕ) (rn : Row w nels) (rs : Row w seps)
     (hn : Marked (beginsAt nextLine t) place w nels) (hs : Marked (someBegins separators t) place w seps) where
   pub long-fits : Each2 (λ x y. x + y < 256) nels seps
@@ -91,18 +95,20 @@ module _ {t row : List ℕ} {place w : ℕ} (at : RowAt t place w row) (nels sep
     all-fits = each2-from-at (λ x y. x + y < 256) long low rl (λ i l.
         omega (arith, long-at i l, low-at i l, flag-small (ltb 9 (getD t (place + i) 0) && ltb (getD t (place + i) 0) 14), flag-small (beginsAt nextLine t (place + i)), flag-small (someBegins separators t (place + i))))
 
-    module _ (all : List ℕ) (ea : all ≡ zip2 (λ x y. x + y) long low) where
-      all-at : (i : ℕ) → i < w → getD all i 0 ≡ sum t (place + i)
-      all-at i l =
+    pub all-summed : (all : List ℕ) → all ≡ zip2 (λ x y. x + y) long low → Summed t place w all
+    all-summed all ea = record {
+      at = λ i l.
           ap (λ (xs : List ℕ). getD xs i 0) ea ∙ at-zip (λ x y. x + y) refl long low (rl .long ∙ sym (rw .long)) i
-          ∙ ap (λ (n : ℕ). n + getD low i 0) (long-at i l) ∙ ap (λ (n : ℕ). flag (beginsAt nextLine t (place + i)) + flag (someBegins separators t (place + i)) + n) (low-at i l)
+          ∙ ap (λ (n : ℕ). n + getD low i 0) (long-at i l) ∙ ap (λ (n : ℕ). flag (beginsAt nextLine t (place + i)) + flag (someBegins separators t (place + i)) + n) (low-at i l);
+    }
 
-      pub all-above : (i : ℕ) → i < w → flag (beginsAt crLf t (place + i)) ≤ getD all i 0
-      all-above i l = omega (arith, all-at i l, lane t (place + i) .0)
+module _ {t : List ℕ} {place w : ℕ} {all : List ℕ} (s : Summed t place w all) where
+  pub summed-above : (i : ℕ) → i < w → flag (beginsAt crLf t (place + i)) ≤ getD all i 0
+  summed-above i l = omega (arith, s .at i l, lane t (place + i) .0)
 
-      pub all-marks : (out : List ℕ) → Row w out → ((i : ℕ) → i < w → getD out i 0 ≡ getD all i 0 - flag (beginsAt crLf t (place + i))) → out ≡ breakMarks t place w
-      all-marks out ro h =
-          let lo : length out ≡ w = ro .long in
-          ext-getD 0 out (breakMarks t place w) (lo ∙ sym (marks-length t place w)) (λ i l.
-          let k : i < w = omega arith in
-          h i k ∙ ap (λ (n : ℕ). n - flag (beginsAt crLf t (place + i))) (all-at i k) ∙ lane t (place + i) .1 ∙ sym (marks-at t place w i k))
+  pub summed-marks : (out : List ℕ) → Row w out → ((i : ℕ) → i < w → getD out i 0 ≡ getD all i 0 - flag (beginsAt crLf t (place + i))) → out ≡ breakMarks t place w
+  summed-marks out ro h =
+      let lo : length out ≡ w = ro .long in
+      ext-getD 0 out (breakMarks t place w) (lo ∙ sym (marks-length t place w)) (λ i l.
+      let k : i < w = omega arith in
+      h i k ∙ ap (λ (n : ℕ). n - flag (beginsAt crLf t (place + i))) (s .at i k) ∙ lane t (place + i) .1 ∙ sym (marks-at t place w i k))

@@ -15,6 +15,7 @@ use Rattle.std.proofs.shelf.Ways.{tells}
 use Rattle.std.proofs.shelf.Tests.{true≢false}
 use Rattle.chunk.specs.Rows.{Row, isByte, isBetween}
 use Rattle.scan.specs.Marks.{mark, zip3}
+use Rattle.scan.proofs.Marking.{flag-small}
 use Rattle.utf8.specs.Places.{follower}
 use Rattle.measures.specs.Counts.{leads, fours, lfHit, crlfHit, unicodeHit}
 
@@ -82,10 +83,6 @@ lead-lane : (b : Bool) → 1 - cond b 1 0 ≡ cond (not b) 1 0
 lead-lane true = refl
 lead-lane false = refl
 
-flag-small : (b : Bool) → cond b 1 0 ≤ 1
-flag-small true = omega arith
-flag-small false = omega arith
-
 pub leads-fit : (n b : ℕ) (xs : List ℕ) → Each2 (λ x y. y ≤ x) (replicate n 1) (map (isByte b) xs)
 leads-fit zero b xs = tt
 leads-fit (suc n) b [] = tt
@@ -111,13 +108,7 @@ subs-fit [] (x ∷ xs) = tt
 subs-fit (p ∷ ps) (x ∷ xs) = (omega (arith, and-le-r (isByte 13 p) (isByte 10 x)), subs-fit ps xs)
 
 lane : (t r q : Bool) → (t ≡ true → r ≡ true → ⊥) → cond t 1 0 + cond r 1 0 - bitAnd (cond q 1 0) (cond t 1 0) ≡ cond (r || (t && not q)) 1 0
-lane true true q h = absurd (h refl refl)
-lane true false true h = refl
-lane true false false h = refl
-lane false true true h = refl
-lane false true false h = refl
-lane false false true h = refl
-lane false false false h = refl
+lane t r q h = grind (arith, tells)
 
 apart : (x : ℕ) → eqb x 10 ≡ true → eqb x 13 ≡ true → ⊥
 apart x a b = grind (arith, tells)
@@ -146,22 +137,7 @@ abbrev clash : Bool → Bool → Bool → Bool → Bool
 clash m s n u = (s && not m) || ((m && (n || u)) || (n && u))
 
 lanes4 : (m s n u : Bool) → clash m s n u ≡ false → (cond s 1 0 ≤ cond m 1 0) × (cond m 1 0 - cond s 1 0 + cond n 1 0 + cond u 1 0 ≡ cond ((m && not s) || (n || u)) 1 0)
-lanes4 true true true true e = absurd (true≢false e)
-lanes4 true true true false e = absurd (true≢false e)
-lanes4 true true false true e = absurd (true≢false e)
-lanes4 true true false false e = (omega arith, refl)
-lanes4 true false true true e = absurd (true≢false e)
-lanes4 true false true false e = absurd (true≢false e)
-lanes4 true false false true e = absurd (true≢false e)
-lanes4 true false false false e = (omega arith, refl)
-lanes4 false true true true e = absurd (true≢false e)
-lanes4 false true true false e = absurd (true≢false e)
-lanes4 false true false true e = absurd (true≢false e)
-lanes4 false true false false e = absurd (true≢false e)
-lanes4 false false true true e = absurd (true≢false e)
-lanes4 false false true false e = (omega arith, refl)
-lanes4 false false false true e = (omega arith, refl)
-lanes4 false false false false e = (omega arith, refl)
+lanes4 m s n u e = (grind (arith, tells), grind (arith, tells))
 
 low : ℕ → Bool
 low x = ltb 9 x && ltb x 14

@@ -11,6 +11,7 @@ use Rattle.std.proofs.shelf.Lists.{getD-past}
 use Rattle.std.proofs.shelf.Tests.{cases-lt, cond-false, true≢false}
 use Rattle.std.proofs.shelf.Ways.{tells}
 use Rattle.scan.specs.Marks.{Rule, mark}
+use Rattle.scan.proofs.Marking.{flag-small}
 use Rattle.utf8.specs.Grammar.{Text}
 use Rattle.utf8.specs.Places.{follower}
 use Rattle.utf8.proofs.Cuts.{cut-none}
@@ -20,10 +21,6 @@ use Rattle.measures.specs.Chars.{charEnds, charWeight}
 use Rattle.measures.specs.Breaks.{lfBreaks, crlfBreaks, unicodeBreaks, broken, lineWeight}
 use Rattle.measures.specs.Counts.{leads, lfHit, crlfHit, unicodeHit, inChar, inBreak, nowhere}
 use Rattle.measures.proofs.Charring.{ends-in, ends-last}
-
-flag-small : (b : Bool) → cond b 1 0 ≤ 1
-flag-small true = omega arith
-flag-small false = omega arith
 
 one-of : (b : Bool) → cond (not b) 1 0 + cond b 1 0 ≡ 1
 one-of true = refl

@@ -12,16 +12,13 @@ use lib.Seq.{take-nil, drop-drop, take-take}
 use mir.Val.{boolByte}
 use Rattle.std.proofs.shelf.Lanes.{getD-chunk}
 use Rattle.std.proofs.shelf.Lists.{drop-more}
+use Rattle.chunk.proofs.Rows.{flag-byte}
 use Rattle.scan.specs.Marks.{Rule, mark, marks, zip3, counted}
 
 -- a mark is a flag
-flag-small : (b : Bool) → cond b 1 0 ≤ 1
+pub flag-small : (b : Bool) → cond b 1 0 ≤ 1
 flag-small true = omega arith
 flag-small false = omega arith
-
-flag-byte : (b : Bool) → boolByte b ≡ cond b 1 0
-flag-byte true = refl
-flag-byte false = refl
 
 pub mark-byte : (hit : Rule) (b : Bool) (q p x : ℕ) → b ≡ hit q p x → boolByte b ≡ mark hit q p x
 mark-byte hit b q p x e = ap boolByte e ∙ flag-byte (hit q p x)

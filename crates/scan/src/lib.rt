@@ -122,8 +122,9 @@ pub fn count<S: Scan, K: ByteChunk>(text: &[u8], from: usize, to: usize, head: u
     ensures { λ r. ⌜ r ≡ counted (S·Scan .hit) (now (text .entry)) from (to - from) ⌝ }
 {
     let size = K::size();
-    let mut place = from + head.min(to - from);
-    let mut count = singly::<S>(text, from, place);
+    let start = from + head.min(to - from);
+    let mut count = singly::<S>(text, from, start);
+    let mut place = start;
     while to - place >= size {
         let n = round_len(to - place, size, K::max_acc());
         count += round::<S, K>(text, place, n);

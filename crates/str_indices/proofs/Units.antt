@@ -12,7 +12,7 @@ use Rattle.std.proofs.shelf.Lists.{getD-past}
 use Rattle.std.proofs.shelf.Tests.{cases-lt, cases-bool, cond-true, cond-false, cond-both, leb-true, both-ways}
 use Rattle.std.proofs.shelf.Ways.{tells}
 use Rattle.scan.specs.Marks.{counted}
-use Rattle.scan.proofs.Marking.{counted-on, counted-next, counted-most}
+use Rattle.scan.proofs.Marking.{flag-small, counted-on, counted-next, counted-most}
 use Rattle.utf8.specs.Grammar.{Text}
 use Rattle.utf8.specs.Places.{follower, charStart}
 use Rattle.cells.specs.Cells.{index, count, start}
@@ -29,10 +29,6 @@ use Rattle.measures.proofs.Once.{chars-linked}
 use Rattle.measures.proofs.Pairs.{unit-index, pair-index}
 use Rattle.str_indices.specs.Units.{unit, begun, Begun}
 use Rattle.str_indices.proofs.Fours.{four-tails}
-
-small : (b : Bool) → cond b 1 0 ≤ 1
-small true = omega arith
-small false = omega arith
 
 pub begun-next : (t : List ℕ) (i : ℕ) → i < length t → begun t (i + 1) ≡ begun t i + unit (getD t i 0)
 begun-next t i h = omega (arith, counted-next leads t i h, counted-next fours t i h)
@@ -58,17 +54,17 @@ late t p zero = 0
 late t p (suc m) = cond (leb 0xF0 (getD t (p + m) 0)) 1 0
 
 late-lead : (t : List ℕ) (p m : ℕ) → Text t → late t p m + cond (not (follower (getD t (p + m) 0))) 1 0 ≤ 1
-late-lead t p zero u = omega (arith, small (not (follower (getD t (p + 0) 0))))
+late-lead t p zero u = omega (arith, flag-small (not (follower (getD t (p + 0) 0))))
 late-lead t p (suc m) u =
     ⊎-elim
     (λ (e : leb 0xF0 (getD t (p + m) 0) ≡ true).
     let n : p + suc m ≡ p + m + suc 0 = omega arith in
     let f : follower (getD t (p + suc m) 0) ≡ true = ap (λ (k : ℕ). follower (getD t k 0)) n ∙ four-tails u (p + m) (leb-true 0xF0 (getD t (p + m) 0) e) 0 (omega arith) in
     let g : _≡_ {A = ℕ} (cond (not (follower (getD t (p + suc m) 0))) 1 0) 0 = ap (λ (b : Bool). cond (not b) 1 0) f in
-    omega (arith, small (leb 0xF0 (getD t (p + m) 0)), g))
+    omega (arith, flag-small (leb 0xF0 (getD t (p + m) 0)), g))
     (λ (e : leb 0xF0 (getD t (p + m) 0) ≡ false).
     let g : _≡_ {A = ℕ} (cond (leb 0xF0 (getD t (p + m) 0)) 1 0) 0 = cond-false (leb 0xF0 (getD t (p + m) 0)) 1 0 e in
-    omega (arith, small (not (follower (getD t (p + suc m) 0))), g))
+    omega (arith, flag-small (not (follower (getD t (p + suc m) 0))), g))
     (cases-bool (leb 0xF0 (getD t (p + m) 0)))
 
 begun-late : (t : List ℕ) (p n : ℕ) → Text t → p + n ≤ length t → begun t (p + n) ≤ begun t p + n + late t p n
@@ -79,7 +75,7 @@ begun-late t p (suc m) u h =
 
 late-small : (t : List ℕ) (p n : ℕ) → late t p n ≤ 1
 late-small t p zero = omega arith
-late-small t p (suc m) = small (leb 0xF0 (getD t (p + m) 0))
+late-small t p (suc m) = flag-small (leb 0xF0 (getD t (p + m) 0))
 
 begun-row : (t : List ℕ) (p n : ℕ) → Text t → p + n ≤ length t → begun t (p + n) ≤ begun t p + n + 1
 begun-row t p n u h = omega (arith, begun-late t p n u h, late-small t p n)

@@ -7,9 +7,9 @@ use crate::head::head_below;
 use chunk::ByteChunk;
 use faults::count::Fault;
 use faults::count::FromCheck;
-use line_rows::lines::count_breaks_impl;
-use line_rows::lines::from_byte_idx_impl;
-use line_rows::lines::to_byte_idx_impl;
+use line_rows::routes::count_breaks_impl;
+use line_rows::routes::from_byte_idx_impl;
+use line_rows::routes::to_byte_idx_impl;
 pub use line_rows::up_to::count_breaks_up_to;
 use utf8::Checked;
 
@@ -50,9 +50,9 @@ pub fn count_breaks_bytes<K: ByteChunk>(bytes: &[u8], head: usize) -> Result<usi
     ensures { λ r. ⌜ r ≡ answerBytes (K·ByteChunk .width) head (now (bytes .entry)) (count (lineWeight unicodeBreaks) (now (bytes .entry))) ⌝ }
 {
     head_below::<K>(head)?;
-    let mut text = Checked::new();
-    text.check(bytes)?;
-    Ok(count_breaks_impl::<K>(text.bytes(), head))
+    let mut held = Checked::new();
+    held.check(bytes)?;
+    Ok(count_breaks_impl::<K>(held.bytes(), head))
 }
 
 pub fn from_byte_idx_bytes<K: ByteChunk>(
@@ -63,9 +63,9 @@ pub fn from_byte_idx_bytes<K: ByteChunk>(
     ensures { λ r. ⌜ r ≡ answerBytes (K·ByteChunk .width) head (now (bytes .entry)) (index (lineWeight unicodeBreaks) (now (bytes .entry)) «byte_idx») ⌝ }
 {
     head_below::<K>(head)?;
-    let mut text = Checked::new();
-    text.check(bytes)?;
-    Ok(from_byte_idx_impl::<K>(text, byte_idx, head))
+    let mut held = Checked::new();
+    held.check(bytes)?;
+    Ok(from_byte_idx_impl::<K>(held, byte_idx, head))
 }
 
 pub fn to_byte_idx_bytes<K: ByteChunk>(
@@ -76,7 +76,7 @@ pub fn to_byte_idx_bytes<K: ByteChunk>(
     ensures { λ r. ⌜ r ≡ answerBytes (K·ByteChunk .width) head (now (bytes .entry)) (start (lineWeight unicodeBreaks) (now (bytes .entry)) «line_idx») ⌝ }
 {
     head_below::<K>(head)?;
-    let mut text = Checked::new();
-    text.check(bytes)?;
-    Ok(to_byte_idx_impl::<K>(text, line_idx, head))
+    let mut held = Checked::new();
+    held.check(bytes)?;
+    Ok(to_byte_idx_impl::<K>(held, line_idx, head))
 }

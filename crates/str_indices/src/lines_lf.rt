@@ -52,9 +52,9 @@ pub fn count_breaks_bytes<K: ByteChunk>(bytes: &[u8], head: usize) -> Result<usi
     ensures { λ r. ⌜ r ≡ answerBytes (K·ByteChunk .width) head (now (bytes .entry)) (count (lineWeight lfBreaks) (now (bytes .entry))) ⌝ }
 {
     head_below::<K>(head)?;
-    let mut text = Checked::new();
-    text.check(bytes)?;
-    Ok(count_breaks_impl::<K>(text, head))
+    let mut held = Checked::new();
+    held.check(bytes)?;
+    Ok(count_breaks_impl::<K>(held, head))
 }
 
 pub fn from_byte_idx_bytes<K: ByteChunk>(
@@ -65,9 +65,9 @@ pub fn from_byte_idx_bytes<K: ByteChunk>(
     ensures { λ r. ⌜ r ≡ answerBytes (K·ByteChunk .width) head (now (bytes .entry)) (index (lineWeight lfBreaks) (now (bytes .entry)) «byte_idx») ⌝ }
 {
     head_below::<K>(head)?;
-    let mut text = Checked::new();
-    text.check(bytes)?;
-    Ok(from_byte_idx_impl::<K>(text, byte_idx, head))
+    let mut held = Checked::new();
+    held.check(bytes)?;
+    Ok(from_byte_idx_impl::<K>(held, byte_idx, head))
 }
 
 pub fn to_byte_idx_bytes<K: ByteChunk>(
@@ -78,9 +78,9 @@ pub fn to_byte_idx_bytes<K: ByteChunk>(
     ensures { λ r. ⌜ r ≡ answerBytes (K·ByteChunk .width) head (now (bytes .entry)) (start (lineWeight lfBreaks) (now (bytes .entry)) «line_idx») ⌝ }
 {
     head_below::<K>(head)?;
-    let mut text = Checked::new();
-    text.check(bytes)?;
-    Ok(to_byte_idx_impl::<K>(text, line_idx, head))
+    let mut held = Checked::new();
+    held.check(bytes)?;
+    Ok(to_byte_idx_impl::<K>(held, line_idx, head))
 }
 
 fn to_byte_idx_impl<K: ByteChunk>(text: Checked<'_>, line_idx: usize, head: usize) -> usize

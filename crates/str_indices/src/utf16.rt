@@ -69,18 +69,18 @@ pub fn count_bytes<K: ByteChunk>(bytes: &[u8], head: usize) -> Result<usize, Fau
     ensures { λ r. ⌜ r ≡ answerBytes (K·ByteChunk .width) head (now (bytes .entry)) (count unitWeight (now (bytes .entry))) ⌝ }
 {
     head_below::<K>(head)?;
-    let mut text = Checked::new();
-    text.check(bytes)?;
-    Ok(count_impl::<K>(text, head))
+    let mut held = Checked::new();
+    held.check(bytes)?;
+    Ok(count_impl::<K>(held, head))
 }
 
 pub fn count_surrogates_bytes<K: ByteChunk>(bytes: &[u8], head: usize) -> Result<usize, Fault>
     ensures { λ r. ⌜ r ≡ answerBytes (K·ByteChunk .width) head (now (bytes .entry)) (count pairWeight (now (bytes .entry))) ⌝ }
 {
     head_below::<K>(head)?;
-    let mut text = Checked::new();
-    text.check(bytes)?;
-    Ok(count_surrogates_impl::<K>(text, head))
+    let mut held = Checked::new();
+    held.check(bytes)?;
+    Ok(count_surrogates_impl::<K>(held, head))
 }
 
 pub fn from_byte_idx_bytes<K: ByteChunk>(
@@ -91,9 +91,9 @@ pub fn from_byte_idx_bytes<K: ByteChunk>(
     ensures { λ r. ⌜ r ≡ answerBytes (K·ByteChunk .width) head (now (bytes .entry)) (index unitWeight (now (bytes .entry)) «byte_idx») ⌝ }
 {
     head_below::<K>(head)?;
-    let mut text = Checked::new();
-    text.check(bytes)?;
-    Ok(from_byte_idx_impl::<K>(text, byte_idx, head))
+    let mut held = Checked::new();
+    held.check(bytes)?;
+    Ok(from_byte_idx_impl::<K>(held, byte_idx, head))
 }
 
 pub fn to_byte_idx_bytes<K: ByteChunk>(
@@ -104,9 +104,9 @@ pub fn to_byte_idx_bytes<K: ByteChunk>(
     ensures { λ r. ⌜ r ≡ answerBytes (K·ByteChunk .width) head (now (bytes .entry)) (start unitWeight (now (bytes .entry)) «utf16_idx») ⌝ }
 {
     head_below::<K>(head)?;
-    let mut text = Checked::new();
-    text.check(bytes)?;
-    Ok(to_byte_idx_impl::<K>(text, utf16_idx, head))
+    let mut held = Checked::new();
+    held.check(bytes)?;
+    Ok(to_byte_idx_impl::<K>(held, utf16_idx, head))
 }
 
 // How many units a byte begins.

@@ -1,4 +1,5 @@
 // Replays a list of cases whose answers come from outside, and prints how many agree.
+mod calls;
 mod case;
 mod hex;
 

@@ -18,5 +18,5 @@ returns c =
     let next : c .in-Continue-next .next ≡ start (lineWeight crlfBreaks) (c .args .text .bytes .now) (c .args .line + 1) = same-answer (c .in-Continue-next .ensures tt) in
     ap Ok
     (in-line (c .args .text .bytes .now) (c .args .text .sound) (c .args .line) (c .args .column)
-      _ _ _ _ (c .saturating-add .result) _ _
-      (omega (arith, c .fits .text)) last (c .if-line-last .left) from before (c .saturating-add .ensures) place next (c .min .ensures))
+    _ _ _ _ (c .saturating-add .result) _ _
+    (omega (arith, c .fits .text)) last (c .if-line-last .left) from before (c .saturating-add .ensures) place next (c .min .ensures))
