@@ -1,13 +1,12 @@
 -- Flags of a row against the text that goes on behind it. Assumes nothing.
 use mathlib.Core.Path.{_≡_, refl, sym, ap, subst, _∙_}
-use mathlib.Core.Bool.{Bool, true, false, cond, _&&_, _||_}
+use mathlib.Core.Bool.{Bool, true, false, _&&_, _||_}
 use mathlib.Core.List.{List, [], _∷_, map}
 use mathlib.Core.Logic.{_⊎_, _≢_, ⊎-elim}
-use Prim.Native.Nat.{ℕ, zero, suc, _+_, _-_, _/_, _≤_, _<_}
+use Prim.Native.Nat.{ℕ, suc, _+_, _-_, _≤_, _<_}
 use native.Mathlib.Omega.{arith}
 use lib.Dec.{eqb, leb}
-use lib.ListN.{length, getD, set}
-use lib.Lanes.{chunk}
+use lib.ListN.{length, getD}
 use Rattle.std.proofs.shelf.Lanes.{length-chunk, getD-chunk}
 use Rattle.std.proofs.shelf.Lists.{getD-past, getD-set-same, getD-set-other}
 use Rattle.std.proofs.shelf.Tests.{cases-lt, cases-eq, and-left, and-right, and-parts, ne-eqb, leb-true}
@@ -15,7 +14,7 @@ use Rattle.std.proofs.shelf.Ways.{tells}
 use Rattle.chunk.specs.Rows.{Row, allZero, isByte, atLane}
 use Rattle.line_rows.specs.Begins.{beginsAt, someBegins, flag}
 use Rattle.line_rows.specs.Marks.{RowAt, Flagged, Marked, separators}
-use Rattle.line_rows.proofs.Flags.{is-flags, none-up, down}
+use Rattle.line_rows.proofs.Flags.{is-flags, none-up}
 
 -- ---- what begins at a place, by the bytes from there on
 
@@ -102,7 +101,7 @@ module _ {f : ℕ → Bool} {place w m : ℕ} {found : List ℕ} (h : Within f p
       (λ (a : w ≤ i + m). h .outer i a ∙ ap flag (sym (never i l a)))
       (cases-lt (i + m) w)
 
-  pub one-behind : (at : ℕ) (out : List ℕ) → Row w found → at < w → w ≤ at + m → f (place + at) ≡ true → ((i : ℕ) → i < w → w ≤ i + m → i ≢ at → f (place + i) ≡ false)
+  one-behind : (at : ℕ) (out : List ℕ) → Row w found → at < w → w ≤ at + m → f (place + at) ≡ true → ((i : ℕ) → i < w → w ≤ i + m → i ≢ at → f (place + i) ≡ false)
       → out ≡ atLane at (λ x. x + 1) found → Marked f place w out
   one-behind at out r la ma sure never e i l =
       let long : length found ≡ w = r .long in
@@ -118,6 +117,21 @@ module _ {f : ℕ → Bool} {place w m : ℕ} {found : List ℕ} (h : Within f p
       (λ (a : w ≤ i + m). h .outer i a ∙ ap flag (sym (never i l a q)))
       (cases-lt (i + m) w))
       (cases-eq i at)
+
+  -- a flag in the lane n before the last, which the row itself does not show
+  pub room-behind : (n : ℕ) → n < m → m ≤ w → (n < w) × (getD found (w - 1 - n) 0 < 255)
+  room-behind n l k = (omega arith, omega (arith, h .outer (w - 1 - n) (omega arith)))
+
+  pub nth-behind : (n size : ℕ) (out : List ℕ) → size ≡ w → Row w found → n < m → m ≤ w → f (place + size - suc n) ≡ true → ((i : ℕ) → i < w → w ≤ i + m → i ≢ w - 1 - n → f (place + i) ≡ false)
+      → out ≡ atLane (w - 1 - n) (λ x. x + 1) found → Marked f place w out
+  nth-behind n size out z r l k sure never e =
+      let q : place + (w - 1 - n) ≡ place + size - suc n = omega arith in
+      one-behind (w - 1 - n) out r (omega arith) (omega arith) (ap f q ∙ sure) never e
+
+-- the last lane alone is open, and has no flag
+pub last-none : {f : ℕ → Bool} {place w : ℕ} {found : List ℕ} → Within f place w 1 found → (size : ℕ) → size ≡ w → f (place + size - 1) ≡ false → Marked f place w found
+last-none {f} {place} {w} h size z e =
+    none-behind h (λ i l k. let q : place + i ≡ place + size - 1 = omega arith in ap f q ∙ e)
 
 -- ---- pairs
 

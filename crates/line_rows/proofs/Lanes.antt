@@ -1,13 +1,13 @@
 -- The counts of a row's lanes, without CR LF and with it. Assumes nothing.
 use mathlib.Core.Path.{_≡_, refl, sym, ap, subst, _∙_}
-use mathlib.Core.Bool.{Bool, true, false, cond, _&&_, _||_, not}
-use mathlib.Core.List.{List, [], _∷_, map}
+use mathlib.Core.Bool.{Bool, true, _&&_}
+use mathlib.Core.List.{List, map}
 use mathlib.Core.Logic.{_⊎_, _≢_, ⊎-elim}
 use Prim.Native.Nat.{ℕ, zero, suc, _+_, _-_, _≤_, _<_}
 use native.Mathlib.Nat.{not-suc-le-zero, le-of-suc-le-suc}
 use native.Mathlib.Omega.{arith}
-use lib.Dec.{eqb, ltb}
-use lib.ListN.{length, getD, set}
+use lib.Dec.{ltb}
+use lib.ListN.{length, getD}
 use lib.Lanes.{zip2, Each2}
 use Rattle.std.proofs.shelf.Lists.{ext-getD, getD-set-same, getD-set-other}
 use Rattle.std.proofs.shelf.Tests.{cases-lt, cases-eq}
@@ -18,7 +18,7 @@ use Rattle.line_rows.specs.Begins.{beginsAt, someBegins, crLf, breakCounts, fl
 use Rattle.line_rows.specs.Marks.{RowAt, Marked, nextLine, separators, breakMarks}
 use Rattle.line_rows.proofs.Counts.{flag-small}
 use Rattle.line_rows.proofs.Flags.{at-map, at-zip}
-use Rattle.line_rows.proofs.Edges.{row-in, Within, none-behind, one-behind}
+use Rattle.line_rows.proofs.Edges.{row-in, Within}
 
 -- ---- counts less flags, of which the last lane is still to be seen
 

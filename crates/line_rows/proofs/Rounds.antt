@@ -1,5 +1,5 @@
 -- Rows of marks, added up lane by lane before one sum. Assumes nothing.
-use mathlib.Core.Path.{_≡_, refl, sym, ap, subst, _∙_}
+use mathlib.Core.Path.{_≡_, refl, sym, ap, subst}
 use mathlib.Core.List.{List, [], _∷_}
 use Prim.Native.Nat.{ℕ, zero, suc, _+_, _-_, _*_, _/_, _≤_, _<_}
 use native.Mathlib.Nat.{suc-mul, zero-mul, add-mul, mul-le-mul-right, div-mul-le-self}
@@ -7,12 +7,12 @@ use native.Mathlib.Omega.{arith}
 use lib.ListN.{length, replicate}
 use lib.Lanes.{zip2, Each1, Each2, sumL}
 use Rattle.std.proofs.shelf.Lanes.{sum-zip2, each1-replicate}
-use Rattle.line_rows.specs.Begins.{breakCounts, flag, breaksIn}
+use Rattle.line_rows.specs.Begins.{breakCounts, breaksIn}
 use Rattle.line_rows.specs.Marks.{breakMarks}
 use Rattle.line_rows.specs.Passing.{Passed}
 use Rattle.line_rows.proofs.Counts.{flag-small, breaks-below}
 
-pub breaks-row : (t : List ℕ) (p n : ℕ) → breaksIn t (p + n) ≡ breaksIn t p + sumL (breakMarks t p n)
+breaks-row : (t : List ℕ) (p n : ℕ) → breaksIn t (p + n) ≡ breaksIn t p + sumL (breakMarks t p n)
 breaks-row t p zero = let e : p + 0 ≡ p = omega arith in omega (arith, ap (breaksIn t) e)
 breaks-row t p (suc n) = let e : p + suc n ≡ suc p + n = omega arith in omega (arith, ap (breaksIn t) e, breaks-row t (suc p) n)
 
@@ -45,10 +45,7 @@ module _ (t : List ℕ) (place w : ℕ) {row : List ℕ} (is : row ≡ breakMark
   each-one : Each1 (λ x. x ≤ 1) row
   each-one = subst (Each1 (λ x. x ≤ 1)) (sym is) (ones t place w)
 
-  pub row-small : (n : ℕ) → 1 ≤ n → Each1 (λ x. x ≤ n) row
-  row-small n h = each-below 1 n row h each-one
-
-  pub row-breaks : (n size : ℕ) → size ≡ w → n ≡ sumL row → breaksIn t place + n ≡ breaksIn t (place + size)
+  row-breaks : (n size : ℕ) → size ≡ w → n ≡ sumL row → breaksIn t place + n ≡ breaksIn t (place + size)
   row-breaks n size z e =
       let m : place + size ≡ place + w = omega arith in
       omega (arith, breaks-row t place w, ap (breaksIn t) m, ap sumL is)

@@ -1,19 +1,16 @@
 -- From where a break counts to where it ends. Assumes nothing.
-use mathlib.Core.Path.{_≡_, refl, sym, ap, subst, _∙_}
-use mathlib.Core.Bool.{Bool, true, false, cond, _&&_, _||_, not}
-use mathlib.Core.List.{List, [], _∷_}
+use mathlib.Core.Path.{_≡_, refl, sym, ap, _∙_}
+use mathlib.Core.Bool.{Bool, true, false}
+use mathlib.Core.List.{List}
 use mathlib.Core.Logic.{_⊎_, ⊎-elim}
 use Prim.Native.Nat.{ℕ, zero, suc, _+_, _-_, _≤_, _<_}
 use native.Mathlib.Omega.{arith}
-use lib.Dec.{eqb, ltb}
 use lib.ListN.{length, getD}
 use Rattle.std.proofs.shelf.Tests.{cases-lt, cases-bool, both-ways}
 use Rattle.std.proofs.shelf.Ways.{tells}
-use Rattle.utf8.specs.FirstFault.{isText}
 use Rattle.utf8.specs.Grammar.{Text}
 use Rattle.utf8.specs.Places.{follower, charStart}
-use Rattle.utf8.proofs.Cuts.{Cut, cut-from-start}
-use Rattle.utf8.proofs.Means.{text-from-test}
+use Rattle.utf8.proofs.Cuts.{cut-from-start}
 use Rattle.cells.specs.Cells.{Lawful, index, count, start}
 use Rattle.cells.proofs.Sums.{sum-mono}
 use Rattle.cells.proofs.Starts.{found-start, start-past}

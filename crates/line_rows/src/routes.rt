@@ -1,7 +1,7 @@
 // The routes of the module `lines`: each byte of the head singly, whole rows, then each byte of the rest singly. None of
 // them refuses a head: one above the length leaves no row.
 ghost use mathlib.Core.Path.{_≡_};
-ghost use Prim.Native.Nat.{_+_, _*_, _≤_};
+ghost use Prim.Native.Nat.{_+_, _*_, _<_, _≤_};
 ghost use lib.ListN.{length};
 ghost use Rattle.cells.specs.Cells.{count, index, start};
 ghost use Rattle.measures.specs.Breaks.{unicodeBreaks, lineWeight};
@@ -29,35 +29,44 @@ pub fn from_byte_idx_impl<K: ByteChunk>(text: Checked<'_>, byte_idx: usize, head
     }
 }
 
-// Skips whole rows, as long as fewer than k breaks are counted with them.
-fn skip_rows<K: ByteChunk>(text: &[u8], so_far: usize, from: usize, k: usize) -> (usize, usize)
-    requires { ⌜ from ≤ length (now text) ⌝ ∗ ⌜ Counted (now text) k «so_far» from ⌝ }
-    ensures counted { λ r. ⌜ Counted (now (text .entry)) k (r .0) (r .1) ⌝ }
+// Skips so many rows at a time, as long as fewer than k breaks are counted with them.
+fn skip_rows<K: ByteChunk>(
+    text: &[u8],
+    so_far: usize,
+    from: usize,
+    k: usize,
+    rows: usize,
+) -> (usize, usize)
+    requires rows { ⌜ 0 < rows ⌝ ∗ ⌜ rows ≤ most ⌝ }
+    requires within { ⌜ from ≤ length (now text) ⌝ }
+    requires counted { ⌜ Counted (now text) k «so_far» from ⌝ }
     ensures within { λ r. ⌜ r .1 ≤ length (now (text .entry)) ⌝ }
-    ensures stops { λ r. ⌜ (r .1 + width ≤ length (now (text .entry)) → k ≤ breaksIn (now (text .entry)) (r .1 + width)) ⌝ }
+    ensures counted { λ r. ⌜ Counted (now (text .entry)) k (r .0) (r .1) ⌝ }
+    ensures stops { λ r. ⌜ (r .1 + rows * width ≤ length (now (text .entry)) → k ≤ breaksIn (now (text .entry)) (r .1 + rows * width)) ⌝ }
 {
-    let size = K::size();
+    let step = rows * K::size();
     let mut count = so_far;
     let mut place = from;
-    while text.len() - place >= size {
-        let more = count_breaks_in_chunk::<K>(text, place).sum_bytes();
+    while text.len() - place >= step {
+        let more = count_rows::<K>(text, place, rows);
         if count + more >= k {
             break;
         }
         count += more;
-        place += size;
+        place += step;
     }
     (count, place)
 }
 
-// The start of a line: the head byte by byte, then whole rows, then byte by byte to where the line's break counts,
-// and on to where the char of that break ends.
+// The start of a line: the head byte by byte, then whole rows, in rounds and one by one, then byte by byte to where the
+// line's break counts, and on to where the char of that break ends.
 pub fn to_byte_idx_impl<K: ByteChunk>(text: Checked<'_>, line_idx: usize, head: usize) -> usize
     ensures { λ r. ⌜ r ≡ start (lineWeight unicodeBreaks) (now (text .entry .bytes)) «line_idx» ⌝ }
 {
     let bytes = text.bytes();
     let (count, place) = count_breaks_up_to(bytes, head, line_idx);
-    let (count, place) = skip_rows::<K>(bytes, count, place, line_idx);
+    let (count, place) = skip_rows::<K>(bytes, count, place, line_idx, K::max_acc());
+    let (count, place) = skip_rows::<K>(bytes, count, place, line_idx, 1);
     let rest = &bytes[place..];
     let last = count_breaks_up_to(rest, rest.len(), line_idx - count);
     next_char_start(bytes, place + last.1)

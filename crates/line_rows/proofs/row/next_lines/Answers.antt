@@ -5,7 +5,7 @@ use Rattle.std.proofs.shelf.Tests.{and-left}
 use Rattle.line_rows.specs.Begins.{beginsAt}
 use Rattle.line_rows.specs.Marks.{nextLine}
 use Rattle.line_rows.proofs.Flags.{down}
-use Rattle.line_rows.proofs.Edges.{Within, pairs-within, no-byte, none-behind, one-behind}
+use Rattle.line_rows.proofs.Edges.{Within, pairs-within, no-byte, room-behind, nth-behind, last-none}
 use Rattle.line_rows.proofs.row.next_lines.Given as given
 use Rattle.line_rows.proofs.row.next_lines.Needs as need
 use Rattle.line_rows.proofs.row.next_lines.Needs.{After-followed-by-found}
@@ -21,17 +21,12 @@ returns-then-is-zero g c =
 
 pub inc-nth-from-end-lex-byte-requires : need.inc-nth-from-end-lex-byte-requires
 inc-nth-from-end-lex-byte-requires g c κs =
-    let w = g .K·ByteChunk·met .wide in
-    (omega arith, omega (arith, found g (need.at·inc-nth-from-end-lex-byte-requires g c .After-followed-by-found) .outer (g .K·ByteChunk .width - 1 - 0) (omega arith)))
+    room-behind (found g (need.at·inc-nth-from-end-lex-byte-requires g c .After-followed-by-found)) 0 (omega arith) (omega (arith, g .K·ByteChunk·met .wide))
 
 pub returns-then-pair-at : need.returns-then-pair-at
 returns-then-pair-at g c =
-    let w = g .K·ByteChunk·met .wide in
-    let e : c .args .place + (g .K·ByteChunk .width - 1 - 0) ≡ c .args .place + c .size .result - 1 = omega (arith, c .size .ensures) in
-    one-behind (found g (need.at·returns-then-pair-at g c .After-followed-by-found)) (g .K·ByteChunk .width - 1 - 0) _ (g .K·ByteChunk·met .row (c .followed-by-found .result)) (omega arith) (omega arith)
-    (ap (beginsAt nextLine (c .args .text .now)) e ∙ sym (c .if-pair-at .ensures tt)) (λ i l k q. absurd (q (omega arith))) (c .inc-nth-from-end-lex-byte .ensures)
+    nth-behind (found g (need.at·returns-then-pair-at g c .After-followed-by-found)) 0 (c .size .result) _ (c .size .ensures) (g .K·ByteChunk·met .row (c .followed-by-found .result)) (omega arith) (omega (arith, g .K·ByteChunk·met .wide))
+    (sym (c .if-pair-at .ensures tt)) (λ i l k q. absurd (q (omega arith))) (c .inc-nth-from-end-lex-byte .ensures)
 
 pub returns : need.returns
-returns g c =
-    none-behind (found g (need.at·returns g c .After-followed-by-found))
-    (λ i l k. let e : c .args .place + i ≡ c .args .place + c .size .result - 1 = omega (arith, c .size .ensures) in ap (beginsAt nextLine (c .args .text .now)) e ∙ sym (c .if-pair-at .ensures tt))
+returns g c = last-none (found g (need.at·returns g c .After-followed-by-found)) (c .size .result) (c .size .ensures) (sym (c .if-pair-at .ensures tt))

@@ -1,5 +1,5 @@
 use mathlib.Core.Path.{_≡_, refl, sym, ap, _∙_}
-use mathlib.Core.Bool.{Bool, true, false, _&&_, _||_}
+use mathlib.Core.Bool.{true, false, _&&_, _||_}
 use mathlib.Core.List.{List}
 use mathlib.Core.Logic.{_≢_, ⊎-elim}
 use Prim.Native.Nat.{ℕ, suc, _+_, _-_}
@@ -8,10 +8,10 @@ use lib.Dec.{eqb}
 use lib.ListN.{getD}
 use Rattle.std.proofs.shelf.Tests.{cases-eq, or-from, and-left}
 use Rattle.std.proofs.shelf.Ways.{tells}
-use Rattle.line_rows.specs.Begins.{beginsAt, someBegins}
+use Rattle.line_rows.specs.Begins.{someBegins}
 use Rattle.line_rows.specs.Marks.{separators}
 use Rattle.line_rows.proofs.Flags.{is-flags, down}
-use Rattle.line_rows.proofs.Edges.{Within, separators-reach, within, no-byte, none-behind, one-behind}
+use Rattle.line_rows.proofs.Edges.{Within, separators-reach, within, no-byte, none-behind, room-behind, nth-behind}
 use Rattle.line_rows.proofs.row.separators_from.Given as given
 use Rattle.line_rows.proofs.row.separators_from.Needs as need
 use Rattle.line_rows.proofs.row.separators_from.Needs.{After-separators-within-found}
@@ -41,30 +41,22 @@ separators-within-found-requires g c κs = is-flags 226 _ _ (omega arith) (c .cm
 
 pub inc-nth-from-end-lex-byte-requires : need.inc-nth-from-end-lex-byte-requires
 inc-nth-from-end-lex-byte-requires g c κs =
-    let w = g .K·ByteChunk·met .wide in
-    (omega arith, omega (arith, found g (need.at·inc-nth-from-end-lex-byte-requires g c .After-separators-within-found) .outer (g .K·ByteChunk .width - 1 - 1) (omega arith)))
+    room-behind (found g (need.at·inc-nth-from-end-lex-byte-requires g c .After-separators-within-found)) 1 (omega arith) (omega (arith, g .K·ByteChunk·met .wide))
 
 pub returns-then-separator-at : need.returns-then-separator-at
 returns-then-separator-at g c =
-    let w = g .K·ByteChunk·met .wide in
     let here = sym (c .if-separator-at .ensures tt) in
-    let e : c .args .place + (g .K·ByteChunk .width - 1 - 1) ≡ c .args .place + c .size .result - 2 = omega (arith, c .size .ensures) in
-    one-behind (found g (need.at·returns-then-separator-at g c .After-separators-within-found)) (g .K·ByteChunk .width - 1 - 1) _ (g .K·ByteChunk·met .row (c .separators-within-found .result)) (omega arith) (omega arith)
-    (ap (someBegins separators (c .args .text .now)) e ∙ here)
-    (λ i l k q. apart (c .args .text .now) (c .args .place + c .size .result - 2) (c .args .place + i) (omega (arith, c .size .ensures)) here)
-    (c .inc-nth-from-end-lex-byte .ensures)
+    nth-behind (found g (need.at·returns-then-separator-at g c .After-separators-within-found)) 1 (c .size .result) _ (c .size .ensures) (g .K·ByteChunk·met .row (c .separators-within-found .result)) (omega arith) (omega (arith, g .K·ByteChunk·met .wide))
+    here (λ i l k q. apart (c .args .text .now) (c .args .place + c .size .result - 2) (c .args .place + i) (omega (arith, c .size .ensures, g .K·ByteChunk·met .wide)) here) (c .inc-nth-from-end-lex-byte .ensures)
 
 pub inc-nth-from-end-lex-byte-requires-then-separator-at-2 : need.inc-nth-from-end-lex-byte-requires-then-separator-at-2
 inc-nth-from-end-lex-byte-requires-then-separator-at-2 g c κs =
-    let w = g .K·ByteChunk·met .wide in
-    (omega arith, omega (arith, found g (need.at·inc-nth-from-end-lex-byte-requires-then-separator-at-2 g c .After-separators-within-found) .outer (g .K·ByteChunk .width - 1 - 0) (omega arith)))
+    room-behind (found g (need.at·inc-nth-from-end-lex-byte-requires-then-separator-at-2 g c .After-separators-within-found)) 0 (omega arith) (omega (arith, g .K·ByteChunk·met .wide))
 
 pub returns-then-separator-at-2 : need.returns-then-separator-at-2
 returns-then-separator-at-2 g c =
-    let w = g .K·ByteChunk·met .wide in
-    let e : c .args .place + (g .K·ByteChunk .width - 1 - 0) ≡ c .args .place + c .size .result - 1 = omega (arith, c .size .ensures) in
-    one-behind (found g (need.at·returns-then-separator-at-2 g c .After-separators-within-found)) (g .K·ByteChunk .width - 1 - 0) _ (g .K·ByteChunk·met .row (c .separators-within-found .result)) (omega arith) (omega arith)
-    (ap (someBegins separators (c .args .text .now)) e ∙ sym (c .if-separator-at-2 .ensures tt))
+    nth-behind (found g (need.at·returns-then-separator-at-2 g c .After-separators-within-found)) 0 (c .size .result) _ (c .size .ensures) (g .K·ByteChunk·met .row (c .separators-within-found .result)) (omega arith) (omega (arith, g .K·ByteChunk·met .wide))
+    (sym (c .if-separator-at-2 .ensures tt))
     (λ i l k q. let n : c .args .place + i ≡ c .args .place + c .size .result - 2 = omega (arith, c .size .ensures) in ap (someBegins separators (c .args .text .now)) n ∙ sym (c .if-separator-at .ensures tt))
     (c .inc-nth-from-end-lex-byte-then-separator-at-2 .ensures)
 

@@ -1,13 +1,12 @@
 use mathlib.Core.Path.{_≡_, refl, sym, ap, _∙_}
-use mathlib.Core.Bool.{Bool, true, false, _&&_, _||_}
+use mathlib.Core.Bool.{true, false, _&&_, _||_}
 use mathlib.Core.List.{List}
 use Prim.Native.Nat.{ℕ, suc, _+_, _/_}
 use native.Mathlib.Omega.{arith}
 use lib.Dec.{eqb}
 use lib.ListN.{getD}
 use Rattle.std.proofs.shelf.Ways.{tells}
-use Rattle.line_rows.specs.Begins.{flag, someBegins}
-use Rattle.line_rows.specs.Marks.{separators}
+use Rattle.line_rows.specs.Begins.{flag}
 use Rattle.line_rows.proofs.Flags.{at-map, is-flags, back-flags, and-flags, none-up, down}
 use Rattle.line_rows.proofs.row.separators_within.Needs as need
 

@@ -3,7 +3,7 @@ use Prim.Native.Nat.{_+_, _-_}
 use native.Mathlib.Omega.{arith}
 use Rattle.std.proofs.shelf.Tests.{and-left}
 use Rattle.line_rows.specs.Begins.{beginsAt, crLf, flag}
-use Rattle.line_rows.proofs.Edges.{Within, pairs-within, no-byte, none-behind}
+use Rattle.line_rows.proofs.Edges.{Within, pairs-within, no-byte, last-none}
 use Rattle.line_rows.proofs.Lanes.{less-fits, less-none, less-some, less-one}
 use Rattle.line_rows.proofs.row.without_crlf.Given as given
 use Rattle.line_rows.proofs.row.without_crlf.Needs as need
@@ -44,4 +44,4 @@ returns g c =
     let met = g .K·ByteChunk·met in
     let h = found g (need.at·returns g c .After-followed-by-found) in
     less-none h _ (met .row (c .args .counts)) (met .row (c .followed-by-found .result)) _ (c .sub-left .ensures)
-    (none-behind h (λ i l k. let e : c .args .place + i ≡ c .args .place + c .size .result - 1 = omega (arith, c .size .ensures) in ap (beginsAt crLf (c .args .text .now)) e ∙ sym (c .if-pair-at .ensures tt)))
+    (last-none h (c .size .result) (c .size .ensures) (sym (c .if-pair-at .ensures tt)))

@@ -1,11 +1,10 @@
-use mathlib.Core.Path.{_≡_, sym, ap, _∙_}
-use mathlib.Core.Bool.{true, not, _&&_}
+use mathlib.Core.Path.{sym, ap}
+use mathlib.Core.Bool.{not}
 use mathlib.Core.Logic.{⊎-elim}
 use Prim.Native.Nat.{ℕ}
-use native.Mathlib.Omega.{arith}
 use lib.Dec.{eqb}
 use Rattle.std.proofs.shelf.Lists.{getD-past}
-use Rattle.std.proofs.shelf.Tests.{and-left, and-right}
+use Rattle.std.proofs.shelf.Tests.{and-right}
 use Rattle.cells.specs.Near.{back}
 use Rattle.measures.specs.Breaks.{inCrlf}
 use Rattle.line_rows.proofs.up_to.is_not_crlf_middle.Needs as need
