@@ -7,11 +7,11 @@ ghost use lib.Dec.{eqb};
 ghost use lib.ListN.{length, getD};
 ghost use Rattle.line_rows.specs.Begins.{beginsAt, someBegins, crLf, flag};
 ghost use Rattle.line_rows.specs.Marks.{RowAt, Flagged, Marked, nextLine, separators, breakMarks};
-use measures::near::CR;
-use measures::near::LF;
 use crate::near::pair_at;
 use crate::near::separator_at;
 use chunk::ByteChunk;
+use measures::near::CR;
+use measures::near::LF;
 
 // Half of each byte, as `byte >> 1`.
 fn halves<K: ByteChunk>(row: K) -> K

@@ -6,11 +6,11 @@ ghost use lib.ListN.{length};
 ghost use Rattle.measures.specs.Breaks.{inCrlf};
 ghost use Rattle.line_rows.specs.Begins.{breakCounts};
 ghost use Rattle.line_rows.specs.Passing.{Passed};
+use crate::near::byte_at;
 use measures::near::CR;
 use measures::near::FF;
 use measures::near::LF;
 use measures::near::VT;
-use crate::near::byte_at;
 
 // Whether a break counts at a byte: its first one, or the LF of CR LF.
 fn break_counts(bytes: &[u8], place: usize) -> bool

@@ -1,3 +1,1 @@
 pub mod Crlf
-pub mod Fours
-pub mod Units

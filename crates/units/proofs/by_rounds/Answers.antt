@@ -3,9 +3,9 @@ use Prim.Native.Nat.{ℕ, _+_, _-_, _*_, _/_, _≤_}
 use native.Mathlib.Nat.{div-mul-le-self, mul-le-mul-right}
 use native.Mathlib.Omega.{arith}
 use Rattle.utf8.proofs.Means.{text-from-test}
-use Rattle.str_indices.specs.Units.{begun}
-use Rattle.str_indices.proofs.Units.{begun-most, round-keeps}
-use Rattle.str_indices.proofs.utf16.by_rounds.Needs as need
+use Rattle.units.specs.Units.{begun}
+use Rattle.units.proofs.Begins.{begun-most, round-keeps}
+use Rattle.units.proofs.by_rounds.Needs as need
 
 pub loop-max-round-len-holds : need.loop-max-round-len-holds
 loop-max-round-len-holds g c =

@@ -2,7 +2,7 @@ use Prim.Native.Nat.{_≤_, _*_, _/_}
 use native.Mathlib.Nat.{div-mul-le-self, mul-le-mul-right}
 use native.Mathlib.Omega.{arith}
 use Rattle.std.proofs.shelf.Bits.{le-div}
-use Rattle.str_indices.proofs.utf16.round_len.Needs as need
+use Rattle.units.proofs.round_len.Needs as need
 
 pub returns : need.returns
 returns c =

@@ -1,7 +1,7 @@
 use Prim.Native.Nat.{_-_}
 use lib.ListN.{length}
-use Rattle.str_indices.specs.Units.{Begun}
-use Rattle.str_indices.proofs.utf16.by_rows.Given as given
+use Rattle.units.specs.Units.{Begun}
+use Rattle.units.proofs.by_rows.Given as given
 
 abbrev pub Inv-loop-place : given.InvT-loop-place
 Inv-loop-place g l = Begun (l .text) (l .k) (l .place) (l .count)

@@ -1,7 +1,7 @@
 use Prim.Native.Nat.{_*_}
 use native.Mathlib.Omega.{arith}
-use Rattle.str_indices.proofs.Units.{begun-on}
-use Rattle.str_indices.proofs.utf16.units_in_rows.Needs as need
+use Rattle.units.proofs.Begins.{begun-on}
+use Rattle.units.proofs.units_in_rows.Needs as need
 
 pub add-result : need.add-result
 add-result g c = omega (arith, c .pre .room, begun-on (c .args .text .now) (c .args .place) (c .args .n * g .K·ByteChunk .width) (c .round .result) (c .round-2 .result) (c .round .ensures) (c .round-2 .ensures) .1)

@@ -1,9 +1,9 @@
 use mathlib.Core.Path.{_≡_, ap}
 use Prim.Native.Nat.{_+_, _*_}
 use native.Mathlib.Omega.{arith}
-use Rattle.str_indices.specs.Units.{begun}
-use Rattle.str_indices.proofs.Units.{begun-most}
-use Rattle.str_indices.proofs.utf16.by_rows.Needs as need
+use Rattle.units.specs.Units.{begun}
+use Rattle.units.proofs.Begins.{begun-most}
+use Rattle.units.proofs.by_rows.Needs as need
 
 pub add-count : need.add-count
 add-count g c = omega (arith, c .size-size .ensures, c .loop-place .inv .right, c .units-in-rows-more .ensures, begun-most (c .args .text .now) (c .loop-place .place + 1 * g .K·ByteChunk .width))

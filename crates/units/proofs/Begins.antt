@@ -27,8 +27,8 @@ use Rattle.measures.specs.Counts.{leads, fours, inChar}
 use Rattle.measures.proofs.Charring.{char-lawful, unit-lawful}
 use Rattle.measures.proofs.Once.{chars-linked}
 use Rattle.measures.proofs.Pairs.{unit-index, pair-index}
-use Rattle.str_indices.specs.Units.{unit, begun, Begun}
-use Rattle.str_indices.proofs.Fours.{four-tails}
+use Rattle.units.specs.Units.{unit, begun, Begun}
+use Rattle.units.proofs.Fours.{four-tails}
 
 pub begun-next : (t : List ℕ) (i : ℕ) → i < length t → begun t (i + 1) ≡ begun t i + unit (getD t i 0)
 begun-next t i h = omega (arith, counted-next leads t i h, counted-next fours t i h)

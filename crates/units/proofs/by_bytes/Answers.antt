@@ -1,9 +1,9 @@
 use mathlib.Core.Path.{_≡_, ap, _∙_}
 use Prim.Native.Nat.{_+_}
 use native.Mathlib.Omega.{arith}
-use Rattle.str_indices.specs.Units.{begun}
-use Rattle.str_indices.proofs.Units.{begun-here, begun-most}
-use Rattle.str_indices.proofs.utf16.by_bytes.Needs as need
+use Rattle.units.specs.Units.{begun}
+use Rattle.units.proofs.Begins.{begun-here, begun-most}
+use Rattle.units.proofs.by_bytes.Needs as need
 
 pub add-count : need.add-count
 add-count c =

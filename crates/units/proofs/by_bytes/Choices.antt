@@ -1,6 +1,6 @@
 use Prim.Native.Nat.{_+_}
-use Rattle.str_indices.specs.Units.{Begun}
-use Rattle.str_indices.proofs.utf16.by_bytes.Given as given
+use Rattle.units.specs.Units.{Begun}
+use Rattle.units.proofs.by_bytes.Given as given
 
 abbrev pub Inv-loop-i : given.InvT-loop-i
 Inv-loop-i l = Begun (l .text) (l .k) (l .from + l .i) (l .count)
