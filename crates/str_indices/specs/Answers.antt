@@ -1,4 +1,5 @@
 -- What a call answers: its number, or why it refuses. Assumes nothing.
+use mathlib.Core.Path.{_≡_}
 use mathlib.Core.Bool.{cond}
 use mathlib.Core.List.{List}
 use Prim.Native.Nat.{ℕ}
@@ -26,3 +27,12 @@ answer width head n = cond (ltb head width) (Ok n) (Err (headFault head))
 -- of bytes: n, if the head is below the chunk's width and the bytes are a text; of two faults the head's
 abbrev pub answerBytes : ℕ → ℕ → List ℕ → ℕ → Result ℕ Fault
 answerBytes width head bs n = cond (ltb head width) (elim (firstFault bs) [ None ↦ Ok n | Some f ↦ Err (checkFault f) ]) (Err (headFault head))
+
+-- a call on bytes goes on, holding them
+pub record Admitted (width head : ℕ) (bs held : List ℕ) : Type 0 where
+  pub is : held ≡ bs
+  pub answers : (n : ℕ) → Ok n ≡ answerBytes width head bs n
+
+-- or refuses them, whatever its number would be
+pub record Declined (width head : ℕ) (bs : List ℕ) (f : Fault) : Type 0 where
+  pub answers : (n : ℕ) → Err f ≡ answerBytes width head bs n

@@ -3,10 +3,10 @@ ghost use mathlib.Core.Path.{_≡_};
 ghost use Rattle.cells.specs.Cells.{index, count, start};
 ghost use Rattle.measures.specs.Breaks.{unicodeBreaks, lineWeight};
 ghost use Rattle.str_indices.specs.Answers.{answer, answerBytes};
+use crate::head::admit;
 use crate::head::head_below;
 use chunk::ByteChunk;
 use faults::count::Fault;
-use faults::count::FromCheck;
 use line_rows::routes::count_breaks_impl;
 use line_rows::routes::from_byte_idx_impl;
 use line_rows::routes::to_byte_idx_impl;
@@ -49,9 +49,8 @@ pub fn to_byte_idx<K: ByteChunk>(
 pub fn count_breaks_bytes<K: ByteChunk>(bytes: &[u8], head: usize) -> Result<usize, Fault>
     ensures { λ r. ⌜ r ≡ answerBytes (K·ByteChunk .width) head (now (bytes .entry)) (count (lineWeight unicodeBreaks) (now (bytes .entry))) ⌝ }
 {
-    head_below::<K>(head)?;
     let mut held = Checked::new();
-    held.check(bytes)?;
+    admit::<K>(&mut held, bytes, head)?;
     Ok(count_breaks_impl::<K>(held.bytes(), head))
 }
 
@@ -62,9 +61,8 @@ pub fn from_byte_idx_bytes<K: ByteChunk>(
 ) -> Result<usize, Fault>
     ensures { λ r. ⌜ r ≡ answerBytes (K·ByteChunk .width) head (now (bytes .entry)) (index (lineWeight unicodeBreaks) (now (bytes .entry)) «byte_idx») ⌝ }
 {
-    head_below::<K>(head)?;
     let mut held = Checked::new();
-    held.check(bytes)?;
+    admit::<K>(&mut held, bytes, head)?;
     Ok(from_byte_idx_impl::<K>(held, byte_idx, head))
 }
 
@@ -75,8 +73,7 @@ pub fn to_byte_idx_bytes<K: ByteChunk>(
 ) -> Result<usize, Fault>
     ensures { λ r. ⌜ r ≡ answerBytes (K·ByteChunk .width) head (now (bytes .entry)) (start (lineWeight unicodeBreaks) (now (bytes .entry)) «line_idx») ⌝ }
 {
-    head_below::<K>(head)?;
     let mut held = Checked::new();
-    held.check(bytes)?;
+    admit::<K>(&mut held, bytes, head)?;
     Ok(to_byte_idx_impl::<K>(held, line_idx, head))
 }

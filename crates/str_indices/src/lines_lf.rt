@@ -3,13 +3,13 @@ ghost use mathlib.Core.Path.{_≡_};
 ghost use Rattle.cells.specs.Cells.{index, count, start};
 ghost use Rattle.measures.specs.Breaks.{lfBreaks, lineWeight};
 ghost use Rattle.str_indices.specs.Answers.{answer, answerBytes};
+use crate::head::admit;
 use crate::head::head_below;
 use chunk::ByteChunk;
 use counted::count_of;
 use counted::index_of;
 use counted::seek::start_of;
 use faults::count::Fault;
-use faults::count::FromCheck;
 use measures::lines_lf::LinesLf;
 use measures::lines_lf::LinesLfCounted;
 use measures::lines_lf::LinesLfScan;
@@ -51,9 +51,8 @@ pub fn to_byte_idx<K: ByteChunk>(
 pub fn count_breaks_bytes<K: ByteChunk>(bytes: &[u8], head: usize) -> Result<usize, Fault>
     ensures { λ r. ⌜ r ≡ answerBytes (K·ByteChunk .width) head (now (bytes .entry)) (count (lineWeight lfBreaks) (now (bytes .entry))) ⌝ }
 {
-    head_below::<K>(head)?;
     let mut held = Checked::new();
-    held.check(bytes)?;
+    admit::<K>(&mut held, bytes, head)?;
     Ok(count_breaks_impl::<K>(held, head))
 }
 
@@ -64,9 +63,8 @@ pub fn from_byte_idx_bytes<K: ByteChunk>(
 ) -> Result<usize, Fault>
     ensures { λ r. ⌜ r ≡ answerBytes (K·ByteChunk .width) head (now (bytes .entry)) (index (lineWeight lfBreaks) (now (bytes .entry)) «byte_idx») ⌝ }
 {
-    head_below::<K>(head)?;
     let mut held = Checked::new();
-    held.check(bytes)?;
+    admit::<K>(&mut held, bytes, head)?;
     Ok(from_byte_idx_impl::<K>(held, byte_idx, head))
 }
 
@@ -77,9 +75,8 @@ pub fn to_byte_idx_bytes<K: ByteChunk>(
 ) -> Result<usize, Fault>
     ensures { λ r. ⌜ r ≡ answerBytes (K·ByteChunk .width) head (now (bytes .entry)) (start (lineWeight lfBreaks) (now (bytes .entry)) «line_idx») ⌝ }
 {
-    head_below::<K>(head)?;
     let mut held = Checked::new();
-    held.check(bytes)?;
+    admit::<K>(&mut held, bytes, head)?;
     Ok(to_byte_idx_impl::<K>(held, line_idx, head))
 }
 

@@ -4,11 +4,11 @@ ghost use Rattle.cells.specs.Cells.{index, count, start};
 ghost use Rattle.measures.specs.Chars.{unitWeight, pairWeight};
 ghost use Rattle.str_indices.specs.Answers.{answer, answerBytes};
 use crate::chars;
+use crate::head::admit;
 use crate::head::head_below;
 use cells::Measure;
 use chunk::ByteChunk;
 use faults::count::Fault;
-use faults::count::FromCheck;
 use measures::utf16::Utf16;
 use measures::utf16::Utf16Measure;
 use measures::utf16::sum_surrogates;
@@ -59,18 +59,16 @@ pub fn to_byte_idx<K: ByteChunk>(
 pub fn count_bytes<K: ByteChunk>(bytes: &[u8], head: usize) -> Result<usize, Fault>
     ensures { λ r. ⌜ r ≡ answerBytes (K·ByteChunk .width) head (now (bytes .entry)) (count unitWeight (now (bytes .entry))) ⌝ }
 {
-    head_below::<K>(head)?;
     let mut held = Checked::new();
-    held.check(bytes)?;
+    admit::<K>(&mut held, bytes, head)?;
     Ok(count_impl::<K>(held, head))
 }
 
 pub fn count_surrogates_bytes<K: ByteChunk>(bytes: &[u8], head: usize) -> Result<usize, Fault>
     ensures { λ r. ⌜ r ≡ answerBytes (K·ByteChunk .width) head (now (bytes .entry)) (count pairWeight (now (bytes .entry))) ⌝ }
 {
-    head_below::<K>(head)?;
     let mut held = Checked::new();
-    held.check(bytes)?;
+    admit::<K>(&mut held, bytes, head)?;
     Ok(count_surrogates_impl::<K>(held, head))
 }
 
@@ -81,9 +79,8 @@ pub fn from_byte_idx_bytes<K: ByteChunk>(
 ) -> Result<usize, Fault>
     ensures { λ r. ⌜ r ≡ answerBytes (K·ByteChunk .width) head (now (bytes .entry)) (index unitWeight (now (bytes .entry)) «byte_idx») ⌝ }
 {
-    head_below::<K>(head)?;
     let mut held = Checked::new();
-    held.check(bytes)?;
+    admit::<K>(&mut held, bytes, head)?;
     Ok(from_byte_idx_impl::<K>(held, byte_idx, head))
 }
 
@@ -94,9 +91,8 @@ pub fn to_byte_idx_bytes<K: ByteChunk>(
 ) -> Result<usize, Fault>
     ensures { λ r. ⌜ r ≡ answerBytes (K·ByteChunk .width) head (now (bytes .entry)) (start unitWeight (now (bytes .entry)) «utf16_idx») ⌝ }
 {
-    head_below::<K>(head)?;
     let mut held = Checked::new();
-    held.check(bytes)?;
+    admit::<K>(&mut held, bytes, head)?;
     Ok(to_byte_idx_impl::<K>(held, utf16_idx, head))
 }
 
