@@ -143,6 +143,7 @@ module _ (before c after : List ℕ) (u : Text before) (ch : Char c) (v : Text a
     ends = ends-here;
     whole = inside;
     char = cond-true (charEnds whole end) 1 0 ends-here;
+    pair = ap (λ (b : Bool). cond (b && fourBytes whole end) 1 0) ends-here ∙ ap (λ (b : Bool). cond b 1 0) four;
     units = cond-true (charEnds whole end) (cond (fourBytes whole end) 2 1) 0 ends-here ∙ ap (λ (b : Bool). cond b 2 1) four;
   }
 
