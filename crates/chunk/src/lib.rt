@@ -1,4 +1,6 @@
 // A chunk: a row of bytes that is worked on at once. Routines are written once, above this trait.
+#![tactic(auto)]
+
 ghost use Rattle.std.specs.Prelude.{◌≡◌, ℕ, ◌+◌, ◌-◌, ◌<◌, ◌≤◌, List, map, length, replicate, bit_and, slice_index};
 ghost use Rattle.std.specs.Simd.Lanes.{zip2, Each1, Each2, chunk, sum_l};
 ghost use Rattle.chunk.specs.Rows.{Row, all_zero, is_byte, is_between, moved_back, moved_across, upper_bits, without_top, at_lane};

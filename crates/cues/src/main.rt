@@ -1,4 +1,6 @@
 // Reads a text and a cue file, and prints the place of each cue.
+#![tactic(auto)]
+
 use cue::transcript::transcript;
 use std::{fs, io};
 

@@ -1,5 +1,7 @@
 // What a call declines with: a fault of each layer, which holds the fault of a lower layer whole, and the number and
 // layer that each cause has.
+#![tactic(auto)]
+
 pub mod check;
 pub mod count;
 pub mod cue;

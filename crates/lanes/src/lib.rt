@@ -1,4 +1,6 @@
 // Sixteen bytes in an array, worked on one by one.
+#![tactic(auto)]
+
 ghost use Rattle.std.specs.Prelude.{◌≡◌, true, get_or};
 ghost use Rattle.chunk.specs.Rows.{is_row};
 ghost use Rattle.std.proofs.Common.{rules, arith};

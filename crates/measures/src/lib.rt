@@ -1,4 +1,6 @@
 // The five measures of a text: chars, UTF-16 units, and lines by three sets of breaks.
+#![tactic(auto)]
+
 pub mod chars;
 pub mod examples;
 pub mod lines;

@@ -1,4 +1,6 @@
 // Plays a table of cases on both chunk kinds, and prints for each step how many agree with what the table expects.
+#![tactic(auto)]
+
 mod case;
 mod kind;
 mod play;

@@ -1,4 +1,6 @@
 // The count by chunks, written once for every chunk kind and every rule on a byte and the two before it.
+#![tactic(auto)]
+
 ghost use Rattle.std.specs.Prelude.{◌≡◌, ◌+◌, ◌-◌, ◌*◌, ◌<◌, ◌≤◌, ◌∷◌, length, slice_index};
 ghost use Rattle.scan.specs.Marks.{Rule, mark, zip3, counted};
 ghost use Rattle.scan.specs.Rounds.{Added};

@@ -1,4 +1,6 @@
 // The start of a UTF-16 unit: the head byte by byte, then rounds of rows that cannot pass it, then rows, then bytes again.
+#![tactic(auto)]
+
 ghost use Rattle.std.specs.Prelude.{◌≡◌, ◌+◌, ◌*◌, ◌<◌, ◌≤◌, true, length};
 ghost use Rattle.utf8.specs.FirstFault.{is_text};
 ghost use Rattle.cells.specs.Cells.{start};

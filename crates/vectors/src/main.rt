@@ -1,4 +1,6 @@
 // Replays a list of cases whose answers come from outside, and prints how many agree.
+#![tactic(auto)]
+
 mod calls;
 mod case;
 mod hex;

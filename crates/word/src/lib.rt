@@ -1,4 +1,6 @@
 // Eight bytes in a number of 64 bits, the first byte lowest.
+#![tactic(auto)]
+
 ghost use Rattle.std.specs.Prelude.{◌≡◌, slice_index};
 ghost use Rattle.chunk.specs.Rows.{bytes_of};
 ghost use Rattle.chunk.proofs.Digits.{bytes_row};
