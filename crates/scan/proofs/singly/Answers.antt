@@ -9,7 +9,7 @@ loop-byte-init g c =
     let z : c.args.from ≡ c.args.from + 0 = omega arith in
     record {
       right = refl;
-      second = c.before-two-far.ensures ∙ ap (λ (k : ℕ). get_or (0 ∷ 0 ∷ c.args.text.now) k 0) z;
+      second = c.before_two-far.ensures ∙ ap (λ (k : ℕ). get_or (0 ∷ 0 ∷ c.args.text.now) k 0) z;
       first = c.before-near.ensures ∙ ap (λ (k : ℕ). get_or (0 ∷ c.args.text.now) k 0) z;
     }
 
@@ -19,8 +19,8 @@ loop-byte-preserved g c =
     let long : c.loop-byte.byte-index < c.args.to - c.args.from = omega (arith, length-take (c.args.to - c.args.from) (drop c.args.from c.args.text.now)) in
     walked_more c.loop-byte.invariant _ (get_or-chunk c.args.from (c.args.to - c.args.from) c.args.text.now c.loop-byte.byte-index 0 long) c.single.result c.single.ensures (omega arith)
 
-pub overflow-add-count : goal.overflow-add-count
-overflow-add-count g c =
+pub overflow_add-count : goal.overflow_add-count
+overflow_add-count g c =
     let long : c.loop-byte.byte-index < c.args.to - c.args.from = omega (arith, length-take (c.args.to - c.args.from) (drop c.args.from c.args.text.now)) in
     let few = walked_few c.loop-byte.invariant _ (get_or-chunk c.args.from (c.args.to - c.args.from) c.args.text.now c.loop-byte.byte-index 0 long) c.single.result c.single.ensures (omega arith) in
     omega (arith, c.ranges.to)

@@ -11,11 +11,11 @@ loop-i-init c = fills_none (row_zip (λ x y. x + y) c.requires (row_in c.args.se
 pub loop-i-preserved : goal.loop-i-preserved
 loop-i-preserved c = fills_more c.loop-i.invariant c.loop-i-test.true (zip_at (λ x y. x + y) (row_in c.args.self) (row_in c.args.other) c.loop-i-test.true)
 
-pub invariant-of-result : goal.invariant-of-result
-invariant-of-result c = (fills_row c.loop-i.invariant c.loop-i-test.false, tt)
+pub invariant_of-result : goal.invariant_of-result
+invariant_of-result c = (fills_row c.loop-i.invariant c.loop-i-test.false, tt)
 
 pub returns : goal.returns
 returns c = fills_all c.loop-i.invariant c.loop-i-test.false
 
-pub overflow-add-bytes : goal.overflow-add-bytes
-overflow-add-bytes c = record { fits = Each2-at (λ x y. x + y < 256) (row_in c.args.self) (row_in c.args.other) c.loop-i-test.true c.requires }
+pub overflow_add-bytes : goal.overflow_add-bytes
+overflow_add-bytes c = record { fits = Each2-at (λ x y. x + y < 256) (row_in c.args.self) (row_in c.args.other) c.loop-i-test.true c.requires }

@@ -3,5 +3,5 @@ use Rattle.chunk.proofs.Rows.{row_set, is_row_lem}
 use Rattle.lanes.proofs.Own.{row_in}
 use Rattle.lanes.proofs.Lanes16ByteChunk.inc_nth_from_end_lex_byte.Goals as goal
 
-pub invariant-of-result : goal.invariant-of-result
-invariant-of-result c = (is_row_lem (row_set _ _ (omega (arith, c.requires.1)) (row_in c.args.self)), tt)
+pub invariant_of-result : goal.invariant_of-result
+invariant_of-result c = (is_row_lem (row_set _ _ (omega (arith, c.requires.1)) (row_in c.args.self)), tt)

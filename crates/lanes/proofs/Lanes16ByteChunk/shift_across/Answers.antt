@@ -11,8 +11,8 @@ loop-i-init c = record { whole = row_across (row_in c.args.self) (row_in c.args.
 pub loop-i-preserved : goal.loop-i-preserved
 loop-i-preserved c = fills_more c.loop-i.invariant c.loop-i-test.true (across_at _ c.args.other.bytes (omega arith) c.loop-i-test.true)
 
-pub invariant-of-result : goal.invariant-of-result
-invariant-of-result c = (fills_row c.loop-i.invariant c.loop-i-test.false, tt)
+pub invariant_of-result : goal.invariant_of-result
+invariant_of-result c = (fills_row c.loop-i.invariant c.loop-i-test.false, tt)
 
 pub returns : goal.returns
 returns c = fills_all c.loop-i.invariant c.loop-i-test.false

@@ -10,8 +10,8 @@ loop-i-init c = fills_none (row_back c.requires (row_in c.args.self)) refl
 pub loop-i-preserved : goal.loop-i-preserved
 loop-i-preserved c = fills_more c.loop-i.invariant c.loop-i-test.true (back_at c.requires (row_in c.args.self) c.loop-i-test.true ∙ sym c.lane.ensures)
 
-pub invariant-of-result : goal.invariant-of-result
-invariant-of-result c = (fills_row c.loop-i.invariant c.loop-i-test.false, tt)
+pub invariant_of-result : goal.invariant_of-result
+invariant_of-result c = (fills_row c.loop-i.invariant c.loop-i-test.false, tt)
 
 pub returns : goal.returns
 returns c = fills_all c.loop-i.invariant c.loop-i-test.false

@@ -12,8 +12,8 @@ loop-i-init c = fills_none (row_upper c.args.n (row_in c.args.self)) refl
 pub loop-i-preserved : goal.loop-i-preserved
 loop-i-preserved c = fills_more c.loop-i.invariant c.loop-i-test.true (map_at (λ x. x / 2 ^ c.args.n) (row_in c.args.self) c.loop-i-test.true)
 
-pub invariant-of-result : goal.invariant-of-result
-invariant-of-result c = (fills_row c.loop-i.invariant c.loop-i-test.false, tt)
+pub invariant_of-result : goal.invariant_of-result
+invariant_of-result c = (fills_row c.loop-i.invariant c.loop-i-test.false, tt)
 
 pub returns : goal.returns
 returns c = ap (without_top c.args.n) (fills_all c.loop-i.invariant c.loop-i-test.false) ∙ upper_rest c.args.n c.args.self.bytes c.requires (row_in c.args.self).bytes

@@ -11,11 +11,11 @@ loop-i-init c = fills_none (row_sub (row_in c.args.self) (row_in c.args.other)) 
 pub loop-i-preserved : goal.loop-i-preserved
 loop-i-preserved c = fills_more c.loop-i.invariant c.loop-i-test.true (zip_at (λ x y. x - y) (row_in c.args.self) (row_in c.args.other) c.loop-i-test.true)
 
-pub invariant-of-result : goal.invariant-of-result
-invariant-of-result c = (fills_row c.loop-i.invariant c.loop-i-test.false, tt)
+pub invariant_of-result : goal.invariant_of-result
+invariant_of-result c = (fills_row c.loop-i.invariant c.loop-i-test.false, tt)
 
 pub returns : goal.returns
 returns c = fills_all c.loop-i.invariant c.loop-i-test.false
 
-pub overflow-sub-bytes : goal.overflow-sub-bytes
-overflow-sub-bytes c = Each2-at (λ x y. y ≤ x) (row_in c.args.self) (row_in c.args.other) c.loop-i-test.true c.requires
+pub overflow_sub-bytes : goal.overflow_sub-bytes
+overflow_sub-bytes c = Each2-at (λ x y. y ≤ x) (row_in c.args.self) (row_in c.args.other) c.loop-i-test.true c.requires

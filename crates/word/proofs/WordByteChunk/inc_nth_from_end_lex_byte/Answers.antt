@@ -4,8 +4,8 @@ use Rattle.chunk.proofs.Digits.{bytes_inc, inc_below}
 use Rattle.chunk.proofs.Moves.{one_lane}
 use Rattle.word.proofs.WordByteChunk.inc_nth_from_end_lex_byte.Goals as goal
 
-pub overflow-add-result : goal.overflow-add-result
-overflow-add-result c =
+pub overflow_add-result : goal.overflow_add-result
+overflow_add-result c =
     record { fits = omega (arith, one_lane 8 (7 - c.args.n) (omega arith), inc_below 8 (7 - c.args.n) c.args.self.bits (omega arith) (omega arith) c.requires.1) }
 
 pub returns : goal.returns
