@@ -3,7 +3,8 @@
 
 ghost use Rattle.std.specs.Prelude.{◌≡◌, true, get_or};
 ghost use Rattle.chunk.specs.Rows.{is_row};
-ghost use Rattle.std.proofs.Common.{rules, arith};
+ghost use Rattle.chunk.proofs.Rows.{row_of};
+ghost use Rattle.std.proofs.Common.{rules};
 
 use chunk::ByteChunk;
 
@@ -35,13 +36,13 @@ impl ByteChunk for Lanes16 {
 
     ghost most = { 31 };
 
-    ghost wide = { first_of (Prim.search rules, Prim.grind (arith, Self.row.coded.inj)) };
+    ghost wide = { Prim.search rules };
 
-    ghost above = { first_of (Prim.search rules, Prim.grind (arith, Self.row.coded.inj)) };
+    ghost above = { Prim.search rules };
 
-    ghost within = { first_of (Prim.search rules, Prim.grind (arith, Self.row.coded.inj)) };
+    ghost within = { Prim.search rules };
 
-    ghost row = { first_of (Prim.search rules, Prim.grind (arith, Self.row.coded.inj)) };
+    ghost row = { λ x. row_of x.row };
 
     fn size() -> usize {
         SIZE

@@ -6,11 +6,11 @@ use Rattle.counted.proofs.seek.walk.Goals as goal
 pub loop-i-init : goal.loop-i-init
 loop-i-init g c =
     let z : c.args.from ≡ c.args.from + 0 = omega arith in
-    subst (λ (p : ℕ). Walking g.C.Scan.hit g.C.Counted.weight c.args.text.now c.args.k p c.args.so-far c.byte-back-far.result c.byte-back-near.result) z
-    (record { so = c.requires.so; second = c.byte-back-far.ensures; first = c.byte-back-near.ensures })
+    subst (λ (p : ℕ). Walking g.C.Scan.hit g.C.Counted.weight c.args.text.now c.args.k p c.args.so_far c.byte_back-far.result c.byte_back-near.result) z
+    (record { so = c.requires.so; second = c.byte_back-far.ensures; first = c.byte_back-near.ensures })
 
-pub overflow-sub-ended : goal.overflow-sub-ended
-overflow-sub-ended g c =
+pub overflow_sub-ended : goal.overflow_sub-ended
+overflow_sub-ended g c =
     ended_fits g.met.C.Counted.lawful g.met.C.Counted.linked c.args.text.now (text_from_test _ c.requires.sound) c.loop-i.invariant _ (part _ c.args.from c.args.to _ c.loop-i-test.true).is c.splits.result c.splits.ensures
 
 pub returns-then-ended-k : goal.returns-then-ended-k
@@ -23,8 +23,8 @@ returns-then-ended-k g c =
           sym (ended_is g.met.C.Counted.lawful g.met.C.Counted.linked c.args.text.now (text_from_test _ c.requires.sound) c.loop-i.invariant _ here.is c.splits.result c.splits.ensures) ∙ c.if-ended-k.true;
     }
 
-pub overflow-add-count : goal.overflow-add-count
-overflow-add-count g c =
+pub overflow_add-count : goal.overflow_add-count
+overflow_add-count g c =
     let here = part c.args.text.now c.args.from c.args.to c.loop-i.i c.loop-i-test.true in
     omega (
       arith,

@@ -9,4 +9,4 @@ pub invariant_of-result : goal.invariant_of-result
 invariant_of-result c =
     let row = row_in c.args.self in
     let last : get_or c.args.self.bytes 15 0 < 256 = Each1-at (λ x. x < 256) row (omega arith) row.bytes in
-    (is_row_lem (row_set _ _ (omega arith) row), tt)
+    record { row = is_row_lem (row_set _ _ (omega arith) row) }

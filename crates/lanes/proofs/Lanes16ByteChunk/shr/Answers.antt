@@ -13,7 +13,7 @@ pub loop-i-preserved : goal.loop-i-preserved
 loop-i-preserved c = fills_more c.loop-i.invariant c.loop-i-test.true (map_at (λ x. x / 2 ^ c.args.n) (row_in c.args.self) c.loop-i-test.true)
 
 pub invariant_of-result : goal.invariant_of-result
-invariant_of-result c = (fills_row c.loop-i.invariant c.loop-i-test.false, tt)
+invariant_of-result c = record { row = fills_row c.loop-i.invariant c.loop-i-test.false }
 
 pub returns : goal.returns
 returns c = ap (without_top c.args.n) (fills_all c.loop-i.invariant c.loop-i-test.false) ∙ upper_rest c.args.n c.args.self.bytes c.requires (row_in c.args.self).bytes

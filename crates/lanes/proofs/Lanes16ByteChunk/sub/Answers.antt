@@ -12,7 +12,7 @@ pub loop-i-preserved : goal.loop-i-preserved
 loop-i-preserved c = fills_more c.loop-i.invariant c.loop-i-test.true (zip_at (λ x y. x - y) (row_in c.args.self) (row_in c.args.other) c.loop-i-test.true)
 
 pub invariant_of-result : goal.invariant_of-result
-invariant_of-result c = (fills_row c.loop-i.invariant c.loop-i-test.false, tt)
+invariant_of-result c = record { row = fills_row c.loop-i.invariant c.loop-i-test.false }
 
 pub returns : goal.returns
 returns c = fills_all c.loop-i.invariant c.loop-i-test.false
