@@ -10,5 +10,5 @@ none t p a e f g h i j k l = grind (arith, nat_tests)
 
 pub returns : goal.returns
 returns c =
-    none c.args.text.bytes.now c.args.place c.byte-back-before.result (c.byte-back-before.ensures ∙ ap (λ (t : List ℕ). back 1 t c.args.place) c.bytes-bytes.ensures.value)
+    none c.args.text.bytes.now c.args.place c.byte_back-before.result (c.byte_back-before.ensures ∙ ap (λ (t : List ℕ). back 1 t c.args.place) c.bytes-bytes.ensures.value)
     c.if-before-eq-LF.false c.if-before-eq-VT.false c.if-before-eq-FF.false c.if-before-eq-CR.false c.if-before.false c.if-before-2.false c.if-before-3.false

@@ -9,4 +9,4 @@ none t p a e f g = grind (arith, nat_tests)
 
 pub returns-else-before-eq-CR : goal.returns-else-before-eq-CR
 returns-else-before-eq-CR c =
-    none c.args.text.bytes.now c.args.place c.byte-back-before.result (c.byte-back-before.ensures ∙ ap (λ (t : List ℕ). back 1 t c.args.place) c.bytes-bytes.ensures.value) c.if-before-eq-LF.false c.if-before-eq-CR.false
+    none c.args.text.bytes.now c.args.place c.byte_back-before.result (c.byte_back-before.ensures ∙ ap (λ (t : List ℕ). back 1 t c.args.place) c.bytes-bytes.ensures.value) c.if-before-eq-LF.false c.if-before-eq-CR.false

@@ -7,10 +7,10 @@ use Rattle.measures.proofs.utf16.sum_surrogates.Goals as goal
 
 pub returns-then-from-to : goal.returns-then-from-to
 returns-then-from-to g c =
-    pairs_none c.bytes-bytes.result.now (text_from_test _ c.bytes-bytes.ensures.sound) c.args.a c.args.b c.saturating-sub-from.result c.saturating-sub-to.result c.saturating-sub-from.ensures (omega (arith, c.saturating-sub-to.ensures, c.min.ensures)) c.if-from-to.true
+    pairs_none c.bytes-bytes.result.now (text_from_test _ c.bytes-bytes.ensures.sound) c.args.a c.args.b c.saturating_sub-from.result c.saturating_sub-to.result c.saturating_sub-from.ensures (omega (arith, c.saturating_sub-to.ensures, c.min.ensures)) c.if-from-to.true
     ∙ ap (λ (t : List ℕ). index pair_weight t c.args.b - index pair_weight t c.args.a) c.bytes-bytes.ensures.value
 
 pub returns : goal.returns
 returns g c =
-    pairs_sum c.bytes-bytes.result.now (text_from_test _ c.bytes-bytes.ensures.sound) c.args.a c.args.b c.saturating-sub-from.result c.saturating-sub-to.result c.saturating-sub-from.ensures (omega (arith, c.saturating-sub-to.ensures, c.min.ensures)) c.count.result c.if-from-to.false c.count.ensures
+    pairs_sum c.bytes-bytes.result.now (text_from_test _ c.bytes-bytes.ensures.sound) c.args.a c.args.b c.saturating_sub-from.result c.saturating_sub-to.result c.saturating_sub-from.ensures (omega (arith, c.saturating_sub-to.ensures, c.min.ensures)) c.count.result c.if-from-to.false c.count.ensures
     ∙ ap (λ (t : List ℕ). index pair_weight t c.args.b - index pair_weight t c.args.a) c.bytes-bytes.ensures.value

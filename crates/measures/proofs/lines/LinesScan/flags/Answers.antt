@@ -7,11 +7,11 @@ use Rattle.measures.proofs.lines.LinesScan.flags.Goals as goal
 
 pub sub-requires : goal.sub-requires
 sub-requires g c =
-    simp (c.bytes-between-127-low.ensures, c.bitand-second.ensures, c.cmp-eq-byte-cr.ensures, c.cmp-eq-byte-lf.ensures) (lines_sub (g.K.ByteChunk.lanes c.args.near) (g.K.ByteChunk.lanes c.args.row))
+    simp (c.bytes_between_127-low.ensures, c.bitand-second.ensures, c.cmp_eq_byte-cr.ensures, c.cmp_eq_byte-lf.ensures) (lines_sub (g.K.ByteChunk.lanes c.args.near) (g.K.ByteChunk.lanes c.args.row))
 
 pub add-requires : goal.add-requires
 add-requires g c =
-    simp (c.sub.ensures, c.bitand-next.ensures, c.bytes-between-127-low.ensures, c.bitand-second.ensures, c.cmp-eq-byte-cr.ensures, c.cmp-eq-byte-lf.ensures, c.cmp-eq-byte-c2.ensures, c.cmp-eq-byte-nel.ensures)
+    simp (c.sub.ensures, c.bitand-next.ensures, c.bytes_between_127-low.ensures, c.bitand-second.ensures, c.cmp_eq_byte-cr.ensures, c.cmp_eq_byte-lf.ensures, c.cmp_eq_byte-c2.ensures, c.cmp_eq_byte-nel.ensures)
     (lines_add (g.K.ByteChunk.lanes c.args.near) (g.K.ByteChunk.lanes c.args.row))
 
 pub add-requires-2 : goal.add-requires-2
@@ -23,17 +23,17 @@ add-requires-2 g c =
       c.add.ensures,
       c.sub.ensures,
       c.bitand-next.ensures,
-      c.bytes-between-127-low.ensures,
+      c.bytes_between_127-low.ensures,
       c.bitand-second.ensures,
-      c.cmp-eq-byte-cr.ensures,
-      c.cmp-eq-byte-lf.ensures,
-      c.cmp-eq-byte-c2.ensures,
-      c.cmp-eq-byte-nel.ensures,
+      c.cmp_eq_byte-cr.ensures,
+      c.cmp_eq_byte-lf.ensures,
+      c.cmp_eq_byte-c2.ensures,
+      c.cmp_eq_byte-nel.ensures,
       c.bitand-separators.ensures,
       c.bitand-first.ensures,
-      c.cmp-eq-byte-e2.ensures,
-      c.cmp-eq-byte-eighty.ensures,
-      c.cmp-eq-byte-last.ensures,
+      c.cmp_eq_byte-e2.ensures,
+      c.cmp_eq_byte-eighty.ensures,
+      c.cmp_eq_byte-last.ensures,
       pairs,
     )
     (lines_add_2 (g.K.ByteChunk.lanes c.args.far) (g.K.ByteChunk.lanes c.args.near) (g.K.ByteChunk.lanes c.args.row) (row c.args.row).bytes)
@@ -48,16 +48,16 @@ returns g c =
       c.add.ensures,
       c.sub.ensures,
       c.bitand-next.ensures,
-      c.bytes-between-127-low.ensures,
+      c.bytes_between_127-low.ensures,
       c.bitand-second.ensures,
-      c.cmp-eq-byte-cr.ensures,
-      c.cmp-eq-byte-lf.ensures,
-      c.cmp-eq-byte-c2.ensures,
-      c.cmp-eq-byte-nel.ensures,
+      c.cmp_eq_byte-cr.ensures,
+      c.cmp_eq_byte-lf.ensures,
+      c.cmp_eq_byte-c2.ensures,
+      c.cmp_eq_byte-nel.ensures,
       c.bitand-separators.ensures,
       c.bitand-first.ensures,
-      c.cmp-eq-byte-e2.ensures,
-      c.cmp-eq-byte-eighty.ensures,
-      c.cmp-eq-byte-last.ensures,
+      c.cmp_eq_byte-e2.ensures,
+      c.cmp_eq_byte-eighty.ensures,
+      c.cmp_eq_byte-last.ensures,
       pairs,
     ) (lines_row (row c.args.far) (row c.args.near) (row c.args.row))
