@@ -35,12 +35,12 @@ fn skip_rows<K: ByteChunk>(
     k: usize,
     rows: usize,
 ) -> (usize, usize)
-    requires rows { (0 < rows) × (rows ≤ most) }
+    requires rows { (0 < rows) × (rows ≤ K.most) }
     requires within { from ≤ length text.now }
     requires counted { Counted text.now k so_far from }
     ensures within { result.1 ≤ length text.now }
     ensures counted { Counted text.now k result.0 result.1 }
-    ensures stops { result.1 + rows * width ≤ length text.now → k ≤ breaks_in text.now (result.1 + rows * width) }
+    ensures stops { result.1 + rows * K.width ≤ length text.now → k ≤ breaks_in text.now (result.1 + rows * K.width) }
 {
     let step = rows * K::size();
     let mut count = so_far;
@@ -72,8 +72,8 @@ pub fn to_byte_idx_impl<K: ByteChunk>(text: Checked<'_>, line_idx: usize, head: 
 
 // The breaks that count in a round of rows, no more than one sum takes.
 fn count_rows<K: ByteChunk>(text: &[u8], from: usize, rows: usize) -> usize
-    requires { (rows ≤ most) × (from + rows * width ≤ length text.now) }
-    ensures { breaks_in text.now from + result ≡ breaks_in text.now (from + rows * width) }
+    requires { (rows ≤ K.most) × (from + rows * K.width ≤ length text.now) }
+    ensures { breaks_in text.now from + result ≡ breaks_in text.now (from + rows * K.width) }
 {
     let mut acc = K::zero();
     let mut place = from;

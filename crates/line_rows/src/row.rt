@@ -9,7 +9,7 @@ use measures::near::{CR, LF};
 
 // Half of each byte, as `byte >> 1`.
 fn halves<K: ByteChunk>(row: K) -> K
-    ensures { lanes result ≡ map (λ x. x / 2) (lanes row) }
+    ensures { K.lanes result ≡ map (λ x. x / 2) (K.lanes row) }
 {
     row.shr(1).bitand(K::splat(!0x80))
 }
@@ -17,15 +17,15 @@ fn halves<K: ByteChunk>(row: K) -> K
 // The flags whose next lane is a byte.
 fn followed_by<K: ByteChunk>(row: K, flags: K, byte: u8) -> K
     requires { 0 < byte }
-    ensures { (f : ℕ → Bool) → Flagged f (lanes flags) → Flagged (λ i. f i && slice_index (lanes row) (suc i) == byte) (lanes result) }
+    ensures { (f : ℕ → Bool) → Flagged f (K.lanes flags) → Flagged (λ i. f i && slice_index (K.lanes row) (suc i) == byte) (K.lanes result) }
 {
     flags.bitand(row.cmp_eq_byte(byte).shift_back_lex(1))
 }
 
 // The next lines that begin in the row.
 fn next_lines<K: ByteChunk>(text: &[u8], place: usize, row: K) -> K
-    requires { RowAt text.now place width (lanes row) }
-    ensures { Marked (begins_at next_line text.now) place width (lanes result) }
+    requires { RowAt text.now place K.width (K.lanes row) }
+    ensures { Marked (begins_at next_line text.now) place K.width (K.lanes result) }
 {
     let first = row.cmp_eq_byte(0xC2);
     if first.is_zero() {
@@ -40,8 +40,8 @@ fn next_lines<K: ByteChunk>(text: &[u8], place: usize, row: K) -> K
 
 // The separators that stand in the row, where `first` flags its bytes E2.
 fn separators_within<K: ByteChunk>(row: K, first: K) -> K
-    requires { Flagged (λ i. nat_eq (slice_index (lanes row) i) 0xE2) (lanes first) }
-    ensures { Flagged (some_begins separators (lanes row)) (lanes result) }
+    requires { Flagged (λ i. nat_eq (slice_index (K.lanes row) i) 0xE2) (K.lanes first) }
+    ensures { Flagged (some_begins separators (K.lanes row)) (K.lanes result) }
 {
     let second = followed_by(row, first, 0x80);
     if second.is_zero() {
@@ -52,8 +52,8 @@ fn separators_within<K: ByteChunk>(row: K, first: K) -> K
 
 // The separators that begin in the row.
 fn separators_from<K: ByteChunk>(text: &[u8], place: usize, row: K) -> K
-    requires { RowAt text.now place width (lanes row) }
-    ensures { Marked (some_begins separators text.now) place width (lanes result) }
+    requires { RowAt text.now place K.width (K.lanes row) }
+    ensures { Marked (some_begins separators text.now) place K.width (K.lanes result) }
 {
     let first = row.cmp_eq_byte(0xE2);
     if first.is_zero() {
@@ -72,8 +72,8 @@ fn separators_from<K: ByteChunk>(text: &[u8], place: usize, row: K) -> K
 
 // The counts without the CR of each CR LF, which counts at its LF.
 fn without_crlf<K: ByteChunk>(text: &[u8], place: usize, row: K, counts: K) -> K
-    requires { (RowAt text.now place width (lanes row)) × (((i : ℕ) → i < width → flag (begins_at cr_lf text.now (place + i)) ≤ slice_index (lanes counts) i)) }
-    ensures { (i : ℕ) → i < width → slice_index (lanes result) i ≡ slice_index (lanes counts) i - flag (begins_at cr_lf text.now (place + i)) }
+    requires { (RowAt text.now place K.width (K.lanes row)) × (((i : ℕ) → i < K.width → flag (begins_at cr_lf text.now (place + i)) ≤ slice_index (K.lanes counts) i)) }
+    ensures { (i : ℕ) → i < K.width → slice_index (K.lanes result) i ≡ slice_index (K.lanes counts) i - flag (begins_at cr_lf text.now (place + i)) }
 {
     let first = row.cmp_eq_byte(CR);
     if first.is_zero() {
@@ -89,8 +89,8 @@ fn without_crlf<K: ByteChunk>(text: &[u8], place: usize, row: K, counts: K) -> K
 
 // Where breaks count in the row at a place.
 pub fn count_breaks_in_chunk<K: ByteChunk>(text: &[u8], place: usize) -> K
-    requires { place + width ≤ length text.now }
-    ensures { lanes result ≡ break_marks text.now place width }
+    requires { place + K.width ≤ length text.now }
+    ensures { K.lanes result ≡ break_marks text.now place K.width }
 {
     let row = K::load(text, place);
     let low = row.bytes_between_127(0x09, 0x0E);

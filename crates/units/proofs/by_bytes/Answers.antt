@@ -3,8 +3,8 @@ use Rattle.units.specs.Units.{begun}
 use Rattle.units.proofs.Begins.{begun_here, begun_most}
 use Rattle.units.proofs.by_bytes.Goals as goal
 
-pub overflow-add-count : goal.overflow-add-count
-overflow-add-count c =
+pub overflow_add-count : goal.overflow_add-count
+overflow_add-count c =
     let here = begun_here c.args.text.now c.args.from c.args.to c.loop-i.i c.loop-i.count c.units-more.result c.loop-i-test.true c.requires.within c.loop-i.invariant.right c.units-more.ensures in
     omega (arith, here.0, here.1, c.requires.within, begun_most c.args.text.now (c.args.from + c.loop-i.i + 1))
 

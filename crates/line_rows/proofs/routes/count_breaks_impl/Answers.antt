@@ -5,20 +5,20 @@ use Rattle.line_rows.proofs.Pending.{count_below}
 use Rattle.line_rows.proofs.routes.count_breaks_impl.Goals as goal
 
 pub loop-rows-init : goal.loop-rows-init
-loop-rows-init g c = left_all _ _ c.size.result c.size.ensures c.count-breaks-up-to-count.ensures
+loop-rows-init g c = left_all _ _ c.size.result c.size.ensures c.count_breaks_up_to-count.ensures
 
-pub count-rows-count-requires : goal.count-rows-count-requires
-count-rows-count-requires g c = (omega (arith, c.min-round.ensures, c.max-acc.ensures), round_fits c.loop-rows.invariant _ (omega (arith, c.min-round.ensures)))
+pub count_rows-count-requires : goal.count_rows-count-requires
+count_rows-count-requires g c = (omega (arith, c.min-round.ensures, c.max_acc.ensures), round_fits c.loop-rows.invariant _ (omega (arith, c.min-round.ensures)))
 
-pub overflow-add-count : goal.overflow-add-count
-overflow-add-count g c = omega (arith, round_below c.loop-rows.invariant _ (omega (arith, c.min-round.ensures)) _ c.count-rows-count.ensures)
+pub overflow_add-count : goal.overflow_add-count
+overflow_add-count g c = omega (arith, round_below c.loop-rows.invariant _ (omega (arith, c.min-round.ensures)) _ c.count_rows-count.ensures)
 
 pub loop-rows-preserved : goal.loop-rows-preserved
-loop-rows-preserved g c = round_more c.loop-rows.invariant _ (omega (arith, c.min-round.ensures)) _ c.count-rows-count.ensures c.size-in-loop-rows.result c.size-in-loop-rows.ensures
+loop-rows-preserved g c = round_more c.loop-rows.invariant _ (omega (arith, c.min-round.ensures)) _ c.count_rows-count.ensures c.size-in-loop-rows.result c.size-in-loop-rows.ensures
 
-pub overflow-add-result : goal.overflow-add-result
-overflow-add-result g c =
-    omega (arith, rest_all c.args.text.now c.loop-rows.place (omega (arith, c.loop-rows.invariant.fits)) c.loop-rows.invariant.right c.count-breaks-up-to.ensures, count_below c.args.text.now)
+pub overflow_add-result : goal.overflow_add-result
+overflow_add-result g c =
+    omega (arith, rest_all c.args.text.now c.loop-rows.place (omega (arith, c.loop-rows.invariant.fits)) c.loop-rows.invariant.right c.count_breaks_up_to.ensures, count_below c.args.text.now)
 
 pub returns : goal.returns
-returns g c = rest_all c.args.text.now c.loop-rows.place (omega (arith, c.loop-rows.invariant.fits)) c.loop-rows.invariant.right c.count-breaks-up-to.ensures
+returns g c = rest_all c.args.text.now c.loop-rows.place (omega (arith, c.loop-rows.invariant.fits)) c.loop-rows.invariant.right c.count_breaks_up_to.ensures

@@ -6,26 +6,26 @@ use Rattle.line_rows.proofs.routes.count_rows.Goals as goal
 pub loop-row-init : goal.loop-row-init
 loop-row-init g c = added_none _ _ _ _ c.zero-acc.ensures
 
-pub count-breaks-in-chunk-requires : goal.count-breaks-in-chunk-requires
-count-breaks-in-chunk-requires g c = room c.loop-row.invariant c.args.rows (omega arith) c.requires.1
+pub count_breaks_in_chunk-requires : goal.count_breaks_in_chunk-requires
+count_breaks_in_chunk-requires g c = room c.loop-row.invariant c.args.rows (omega arith) c.requires.1
 
 pub add-acc-requires : goal.add-acc-requires
-add-acc-requires g c = added_fits c.loop-row.invariant _ c.count-breaks-in-chunk.ensures (omega (arith, g.met.K.ByteChunk.within, c.requires.0))
+add-acc-requires g c = added_fits c.loop-row.invariant _ c.count_breaks_in_chunk.ensures (omega (arith, g.met.K.ByteChunk.within, c.requires.0))
 
-pub overflow-add-place : goal.overflow-add-place
-overflow-add-place g c = omega (arith, room c.loop-row.invariant c.args.rows (omega arith) c.requires.1, c.size-place.ensures)
+pub overflow_add-place : goal.overflow_add-place
+overflow_add-place g c = omega (arith, room c.loop-row.invariant c.args.rows (omega arith) c.requires.1, c.size-place.ensures)
 
 pub loop-row-preserved : goal.loop-row-preserved
 loop-row-preserved g c =
     let met = g.met.K.ByteChunk in
-    added_more c.loop-row.invariant _ c.count-breaks-in-chunk.ensures _ c.size-place.result c.size-place.ensures ((met.row c.loop-row.acc).long ∙ sym (met.row c.count-breaks-in-chunk.result).long) c.add-acc.ensures
+    added_more c.loop-row.invariant _ c.count_breaks_in_chunk.ensures _ c.size-place.result c.size-place.ensures ((met.row c.loop-row.acc).long ∙ sym (met.row c.count_breaks_in_chunk.result).long) c.add-acc.ensures
 
-pub sum-bytes-requires : goal.sum-bytes-requires
-sum-bytes-requires g c = each_below c.loop-row.row g.K.ByteChunk.most _ (omega (arith, c.requires.0)) c.loop-row.invariant.small
+pub sum_bytes-requires : goal.sum_bytes-requires
+sum_bytes-requires g c = each_below c.loop-row.row g.K.ByteChunk.most _ (omega (arith, c.requires.0)) c.loop-row.invariant.small
 
 pub returns : goal.returns
 returns g c =
     let end : c.loop-row.row ≡ c.args.rows = omega arith in
     let e : c.loop-row.place ≡ c.args.from + c.args.rows * g.K.ByteChunk.width =
     c.loop-row.invariant.at ∙ ap (λ (i : ℕ). c.args.from + i * g.K.ByteChunk.width) end in
-    ap (λ (n : ℕ). breaks_in c.args.text.now c.args.from + n) c.sum-bytes.ensures ∙ c.loop-row.invariant.right ∙ ap (breaks_in c.args.text.now) e
+    ap (λ (n : ℕ). breaks_in c.args.text.now c.args.from + n) c.sum_bytes.ensures ∙ c.loop-row.invariant.right ∙ ap (breaks_in c.args.text.now) e

@@ -1,5 +1,5 @@
 use Rattle.std.proofs.Common.{◌≡◌, ℕ, ◌+◌, ◌-◌, List, take, sym, ap, ◌∙◌, arith}
-use Rattle.std.proofs.lemmas.Bool.{not_true, not-false}
+use Rattle.std.proofs.lemmas.Bool.{not-true, not-false}
 use Rattle.utf8.proofs.Means.{text_from_test}
 use Rattle.cells.specs.Cells.{index, count}
 use Rattle.measures.specs.Breaks.{unicode_breaks, in_crlf, line_weight}
@@ -7,25 +7,25 @@ use Rattle.line_rows.specs.Begins.{flag}
 use Rattle.line_rows.proofs.Front.{front_count, index_min}
 use Rattle.line_rows.proofs.routes.from_byte_idx_impl.Given as given
 use Rattle.line_rows.proofs.routes.from_byte_idx_impl.Goals as goal
-use Rattle.line_rows.proofs.routes.from_byte_idx_impl.Goals.{After-count-breaks-impl-count}
+use Rattle.line_rows.proofs.routes.from_byte_idx_impl.Goals.{After-count_breaks_impl-count}
 
 -- what is counted: the index, and one more between CR and LF
-counted : (g : given.Over) (c : After-count-breaks-impl-count g)
-    → c.count-breaks-impl-count.result ≡ index (line_weight unicode_breaks) c.args.text.bytes.now c.args.byte-idx + flag (in_crlf c.bytes-bytes.result.now c.min-i.result)
+counted : (g : given.Over) (c : After-count_breaks_impl-count g)
+    → c.count_breaks_impl-count.result ≡ index (line_weight unicode_breaks) c.args.text.bytes.now c.args.byte_idx + flag (in_crlf c.bytes-bytes.result.now c.min-i.result)
 counted g c =
     let t = c.bytes-bytes.result.now in
     let n : c.min-i.result - 0 ≡ c.min-i.result = omega arith in
-    let i : index (line_weight unicode_breaks) c.bytes-bytes.result.now c.min-i.result ≡ index (line_weight unicode_breaks) c.args.text.bytes.now c.args.byte-idx =
-    ap (index (line_weight unicode_breaks) t) c.min-i.ensures ∙ index_min t (text_from_test _ c.bytes-bytes.ensures.sound) c.args.byte-idx
-    ∙ ap (λ (u : List ℕ). index (line_weight unicode_breaks) u c.args.byte-idx) c.bytes-bytes.ensures.value in
-    c.count-breaks-impl-count.ensures ∙ ap (λ (k : ℕ). count (line_weight unicode_breaks) (take k c.bytes-bytes.result.now)) n ∙ front_count t c.min-i.result (omega (arith, c.min-i.ensures))
+    let i : index (line_weight unicode_breaks) c.bytes-bytes.result.now c.min-i.result ≡ index (line_weight unicode_breaks) c.args.text.bytes.now c.args.byte_idx =
+    ap (index (line_weight unicode_breaks) t) c.min-i.ensures ∙ index_min t (text_from_test _ c.bytes-bytes.ensures.sound) c.args.byte_idx
+    ∙ ap (λ (u : List ℕ). index (line_weight unicode_breaks) u c.args.byte_idx) c.bytes-bytes.ensures.value in
+    c.count_breaks_impl-count.ensures ∙ ap (λ (k : ℕ). count (line_weight unicode_breaks) (take k c.bytes-bytes.result.now)) n ∙ front_count t c.min-i.result (omega (arith, c.min-i.ensures))
     ∙ ap (λ (k : ℕ). k + flag (in_crlf c.bytes-bytes.result.now c.min-i.result)) i
 
-pub overflow-sub-result : goal.overflow-sub-result
-overflow-sub-result g c = omega (arith, counted g (goal.at.overflow-sub-result g c).After-count-breaks-impl-count, ap flag (not-false _ (sym c.if-is-not-crlf-middle.ensures)))
+pub overflow_sub-result : goal.overflow_sub-result
+overflow_sub-result g c = omega (arith, counted g (goal.at.overflow_sub-result g c).After-count_breaks_impl-count, ap flag (not-false _ (sym c.if-is_not_crlf_middle.ensures)))
 
-pub returns-then-is-not-crlf-middle : goal.returns-then-is-not-crlf-middle
-returns-then-is-not-crlf-middle g c = omega (arith, counted g (goal.at.returns-then-is-not-crlf-middle g c).After-count-breaks-impl-count, ap flag (not_true _ (sym c.if-is-not-crlf-middle.ensures)))
+pub returns-then-is_not_crlf_middle : goal.returns-then-is_not_crlf_middle
+returns-then-is_not_crlf_middle g c = omega (arith, counted g (goal.at.returns-then-is_not_crlf_middle g c).After-count_breaks_impl-count, ap flag (not-true _ (sym c.if-is_not_crlf_middle.ensures)))
 
-pub returns-else-is-not-crlf-middle : goal.returns-else-is-not-crlf-middle
-returns-else-is-not-crlf-middle g c = omega (arith, counted g (goal.at.returns-else-is-not-crlf-middle g c).After-count-breaks-impl-count, ap flag (not-false _ (sym c.if-is-not-crlf-middle.ensures)))
+pub returns-else-is_not_crlf_middle : goal.returns-else-is_not_crlf_middle
+returns-else-is_not_crlf_middle g c = omega (arith, counted g (goal.at.returns-else-is_not_crlf_middle g c).After-count_breaks_impl-count, ap flag (not-false _ (sym c.if-is_not_crlf_middle.ensures)))

@@ -8,6 +8,6 @@ use Rattle.line_rows.proofs.routes.to_byte_idx_impl.Goals as goal
 
 pub returns : goal.returns
 returns g c =
-    arrives c.bytes-bytes.result.now (text_from_test _ c.bytes-bytes.ensures.sound) _ c.next-char-start.result c.next-char-start.ensures
-    (rest_passed c.bytes-bytes.result.now c.skip-rows-count-2.result.1 c.skip-rows-count-2.ensures.within c.skip-rows-count-2.ensures.counted c.count-breaks-up-to-last.ensures)
-    ∙ ap (λ (t : List ℕ). start (line_weight unicode_breaks) t c.args.line-idx) c.bytes-bytes.ensures.value
+    arrives c.bytes-bytes.result.now (text_from_test _ c.bytes-bytes.ensures.sound) _ c.next_char_start.result c.next_char_start.ensures
+    (rest_passed c.bytes-bytes.result.now c.skip_rows-count-2.result.1 c.skip_rows-count-2.ensures.within c.skip_rows-count-2.ensures.counted c.count_breaks_up_to-last.ensures)
+    ∙ ap (λ (t : List ℕ). start (line_weight unicode_breaks) t c.args.line_idx) c.bytes-bytes.ensures.value

@@ -7,31 +7,31 @@ use Rattle.line_rows.proofs.row.count_breaks_in_chunk.Goals.{After-load-row, Aft
 loaded : (g : given.Over) (c : After-load-row g) → RowAt c.args.text.now c.args.place g.K.ByteChunk.width (g.K.ByteChunk.lanes c.load-row.result)
 loaded g c = record { fits = c.requires; is = c.load-row.ensures }
 
-pub next-lines-requires : goal.next-lines-requires
-next-lines-requires g c = loaded g (goal.at.next-lines-requires g c).After-load-row
+pub next_lines-requires : goal.next_lines-requires
+next_lines-requires g c = loaded g (goal.at.next_lines-requires g c).After-load-row
 
-pub separators-from-requires : goal.separators-from-requires
-separators-from-requires g c = loaded g (goal.at.separators-from-requires g c).After-load-row
+pub separators_from-requires : goal.separators_from-requires
+separators_from-requires g c = loaded g (goal.at.separators_from-requires g c).After-load-row
 
 pub add-long-requires : goal.add-long-requires
 add-long-requires g c =
     let met = g.met.K.ByteChunk in
-    long_fits (loaded g (goal.at.add-long-requires g c).After-load-row) _ _ (met.row c.next-lines.result) (met.row c.separators-from.result) c.next-lines.ensures c.separators-from.ensures
+    long_fits (loaded g (goal.at.add-long-requires g c).After-load-row) _ _ (met.row c.next_lines.result) (met.row c.separators_from.result) c.next_lines.ensures c.separators_from.ensures
 
 pub add-requires : goal.add-requires
 add-requires g c =
     let met = g.met.K.ByteChunk in
-    all_fits (loaded g (goal.at.add-requires g c).After-load-row) _ _ (met.row c.next-lines.result) (met.row c.separators-from.result) c.next-lines.ensures c.separators-from.ensures
-    _ _ (met.row c.add-long.result) (met.row c.bytes-between-127-low.result) c.add-long.ensures c.bytes-between-127-low.ensures
+    all_fits (loaded g (goal.at.add-requires g c).After-load-row) _ _ (met.row c.next_lines.result) (met.row c.separators_from.result) c.next_lines.ensures c.separators_from.ensures
+    _ _ (met.row c.add-long.result) (met.row c.bytes_between_127-low.result) c.add-long.ensures c.bytes_between_127-low.ensures
 
 summed : (g : given.Over) (c : After-add g) → Summed c.args.text.now c.args.place g.K.ByteChunk.width (g.K.ByteChunk.lanes c.add.result)
 summed g c =
     let met = g.met.K.ByteChunk in
-    all_summed (record { fits = c.requires; is = c.load-row.ensures }) _ _ (met.row c.next-lines.result) (met.row c.separators-from.result) c.next-lines.ensures c.separators-from.ensures
-    _ _ (met.row c.add-long.result) (met.row c.bytes-between-127-low.result) c.add-long.ensures c.bytes-between-127-low.ensures _ c.add.ensures
+    all_summed (record { fits = c.requires; is = c.load-row.ensures }) _ _ (met.row c.next_lines.result) (met.row c.separators_from.result) c.next_lines.ensures c.separators_from.ensures
+    _ _ (met.row c.add-long.result) (met.row c.bytes_between_127-low.result) c.add-long.ensures c.bytes_between_127-low.ensures _ c.add.ensures
 
-pub without-crlf-requires : goal.without-crlf-requires
-without-crlf-requires g c = (loaded g (goal.at.without-crlf-requires g c).After-load-row, summed_above (summed g (goal.at.without-crlf-requires g c).After-add))
+pub without_crlf-requires : goal.without_crlf-requires
+without_crlf-requires g c = (loaded g (goal.at.without_crlf-requires g c).After-load-row, summed_above (summed g (goal.at.without_crlf-requires g c).After-add))
 
 pub returns : goal.returns
-returns g c = summed_marks (summed g (goal.at.returns g c).After-add) _ (g.met.K.ByteChunk.row c.without-crlf.result) c.without-crlf.ensures
+returns g c = summed_marks (summed g (goal.at.returns g c).After-add) _ (g.met.K.ByteChunk.row c.without_crlf.result) c.without_crlf.ensures

@@ -6,25 +6,25 @@ use Rattle.line_rows.proofs.Flags.{down}
 use Rattle.line_rows.proofs.Edges.{Within, pairs_within, no_byte, room_behind, nth_behind, last_none}
 use Rattle.line_rows.proofs.row.next_lines.Given as given
 use Rattle.line_rows.proofs.row.next_lines.Goals as goal
-use Rattle.line_rows.proofs.row.next_lines.Goals.{After-followed-by-found}
+use Rattle.line_rows.proofs.row.next_lines.Goals.{After-followed_by-found}
 
 -- but for the last lane, what is found is right
-found : (g : given.Over) (c : After-followed-by-found g) → Within (begins_at next_line c.args.text.now) c.args.place g.K.ByteChunk.width 1 (g.K.ByteChunk.lanes c.followed-by-found.result)
-found g c = pairs_within c.requires 194 133 _ _ (omega arith) (omega arith) c.cmp-eq-byte-first.ensures c.followed-by-found.ensures
+found : (g : given.Over) (c : After-followed_by-found g) → Within (begins_at next_line c.args.text.now) c.args.place g.K.ByteChunk.width 1 (g.K.ByteChunk.lanes c.followed_by-found.result)
+found g c = pairs_within c.requires 194 133 _ _ (omega arith) (omega arith) c.cmp_eq_byte-first.ensures c.followed_by-found.ensures
 
-pub returns-then-is-zero : goal.returns-then-is-zero
-returns-then-is-zero g c =
-    let z = sym c.if-is-zero.ensures in
-    λ i l. down _ z i _ (and_left _ _ (no_byte c.requires 194 _ (omega arith) c.cmp-eq-byte-first.ensures z i l))
+pub returns-then-is_zero : goal.returns-then-is_zero
+returns-then-is_zero g c =
+    let z = sym c.if-is_zero.ensures in
+    λ i l. down _ z i _ (and_left _ _ (no_byte c.requires 194 _ (omega arith) c.cmp_eq_byte-first.ensures z i l))
 
-pub inc-nth-from-end-lex-byte-requires : goal.inc-nth-from-end-lex-byte-requires
-inc-nth-from-end-lex-byte-requires g c =
-    room_behind (found g (goal.at.inc-nth-from-end-lex-byte-requires g c).After-followed-by-found) 0 (omega arith) (omega (arith, g.met.K.ByteChunk.wide))
+pub inc_nth_from_end_lex_byte-requires : goal.inc_nth_from_end_lex_byte-requires
+inc_nth_from_end_lex_byte-requires g c =
+    room_behind (found g (goal.at.inc_nth_from_end_lex_byte-requires g c).After-followed_by-found) 0 (omega arith) (omega (arith, g.met.K.ByteChunk.wide))
 
-pub returns-then-pair-at : goal.returns-then-pair-at
-returns-then-pair-at g c =
-    nth_behind (found g (goal.at.returns-then-pair-at g c).After-followed-by-found) 0 c.size.result _ c.size.ensures (g.met.K.ByteChunk.row c.followed-by-found.result) (omega arith) (omega (arith, g.met.K.ByteChunk.wide))
-    (sym c.if-pair-at.ensures) (λ i l k q. absurd (q (omega arith))) c.inc-nth-from-end-lex-byte.ensures
+pub returns-then-pair_at : goal.returns-then-pair_at
+returns-then-pair_at g c =
+    nth_behind (found g (goal.at.returns-then-pair_at g c).After-followed_by-found) 0 c.size.result _ c.size.ensures (g.met.K.ByteChunk.row c.followed_by-found.result) (omega arith) (omega (arith, g.met.K.ByteChunk.wide))
+    (sym c.if-pair_at.ensures) (λ i l k q. absurd (q (omega arith))) c.inc_nth_from_end_lex_byte.ensures
 
 pub returns : goal.returns
-returns g c = last_none (found g (goal.at.returns g c).After-followed-by-found) c.size.result c.size.ensures (sym c.if-pair-at.ensures)
+returns g c = last_none (found g (goal.at.returns g c).After-followed_by-found) c.size.result c.size.ensures (sym c.if-pair_at.ensures)

@@ -5,41 +5,41 @@ use Rattle.line_rows.proofs.Edges.{Within, pairs_within, no_byte, last_none}
 use Rattle.line_rows.proofs.Lanes.{less_fits, less_none, less_some, less_one}
 use Rattle.line_rows.proofs.row.without_crlf.Given as given
 use Rattle.line_rows.proofs.row.without_crlf.Goals as goal
-use Rattle.line_rows.proofs.row.without_crlf.Goals.{After-followed-by-found}
+use Rattle.line_rows.proofs.row.without_crlf.Goals.{After-followed_by-found}
 
 -- but for the last lane, what is found is right
-found : (g : given.Over) (c : After-followed-by-found g) → Within (begins_at cr_lf c.args.text.now) c.args.place g.K.ByteChunk.width 1 (g.K.ByteChunk.lanes c.followed-by-found.result)
-found g c = pairs_within c.requires.0 13 10 _ _ (omega arith) (omega arith) c.cmp-eq-byte-first.ensures c.followed-by-found.ensures
+found : (g : given.Over) (c : After-followed_by-found g) → Within (begins_at cr_lf c.args.text.now) c.args.place g.K.ByteChunk.width 1 (g.K.ByteChunk.lanes c.followed_by-found.result)
+found g c = pairs_within c.requires.0 13 10 _ _ (omega arith) (omega arith) c.cmp_eq_byte-first.ensures c.followed_by-found.ensures
 
-pub returns-then-is-zero : goal.returns-then-is-zero
-returns-then-is-zero g c =
+pub returns-then-is_zero : goal.returns-then-is_zero
+returns-then-is_zero g c =
     λ i l.
     let e : flag (begins_at cr_lf c.args.text.now (c.args.place + i)) ≡ 0 =
-    ap flag (and_left _ _ (no_byte c.requires.0 13 _ (omega arith) c.cmp-eq-byte-first.ensures (sym c.if-is-zero.ensures) i l)) in
+    ap flag (and_left _ _ (no_byte c.requires.0 13 _ (omega arith) c.cmp_eq_byte-first.ensures (sym c.if-is_zero.ensures) i l)) in
     omega (arith, e)
 
 pub sub-left-requires : goal.sub-left-requires
-sub-left-requires g c = less_fits (found g (goal.at.sub-left-requires g c).After-followed-by-found) _ (g.met.K.ByteChunk.row c.args.counts) c.requires.1
+sub-left-requires g c = less_fits (found g (goal.at.sub-left-requires g c).After-followed_by-found) _ (g.met.K.ByteChunk.row c.args.counts) c.requires.1
 
-pub dec-last-lex-byte-requires : goal.dec-last-lex-byte-requires
-dec-last-lex-byte-requires g c =
+pub dec_last_lex_byte-requires : goal.dec_last_lex_byte-requires
+dec_last_lex_byte-requires g c =
     let met = g.met.K.ByteChunk in
     let w = met.wide in
     let e : c.args.place + (g.K.ByteChunk.width - 1) ≡ c.args.place + c.size.result - 1 = omega (arith, c.size.ensures) in
-    less_some (found g (goal.at.dec-last-lex-byte-requires g c).After-followed-by-found) _ (met.row c.args.counts) (met.row c.followed-by-found.result) _ c.sub-left.ensures
-    (omega arith) (ap (begins_at cr_lf c.args.text.now) e ∙ sym c.if-pair-at.ensures) c.requires.1
+    less_some (found g (goal.at.dec_last_lex_byte-requires g c).After-followed_by-found) _ (met.row c.args.counts) (met.row c.followed_by-found.result) _ c.sub-left.ensures
+    (omega arith) (ap (begins_at cr_lf c.args.text.now) e ∙ sym c.if-pair_at.ensures) c.requires.1
 
-pub returns-then-pair-at : goal.returns-then-pair-at
-returns-then-pair-at g c =
+pub returns-then-pair_at : goal.returns-then-pair_at
+returns-then-pair_at g c =
     let met = g.met.K.ByteChunk in
     let w = met.wide in
     let e : c.args.place + (g.K.ByteChunk.width - 1) ≡ c.args.place + c.size.result - 1 = omega (arith, c.size.ensures) in
-    less_one (found g (goal.at.returns-then-pair-at g c).After-followed-by-found) _ (met.row c.args.counts) (met.row c.followed-by-found.result) _ c.sub-left.ensures
-    (omega arith) (ap (begins_at cr_lf c.args.text.now) e ∙ sym c.if-pair-at.ensures) (met.row c.sub-left.result) _ c.dec-last-lex-byte.ensures
+    less_one (found g (goal.at.returns-then-pair_at g c).After-followed_by-found) _ (met.row c.args.counts) (met.row c.followed_by-found.result) _ c.sub-left.ensures
+    (omega arith) (ap (begins_at cr_lf c.args.text.now) e ∙ sym c.if-pair_at.ensures) (met.row c.sub-left.result) _ c.dec_last_lex_byte.ensures
 
 pub returns : goal.returns
 returns g c =
     let met = g.met.K.ByteChunk in
-    let h = found g (goal.at.returns g c).After-followed-by-found in
-    less_none h _ (met.row c.args.counts) (met.row c.followed-by-found.result) _ c.sub-left.ensures
-    (last_none h c.size.result c.size.ensures (sym c.if-pair-at.ensures))
+    let h = found g (goal.at.returns g c).After-followed_by-found in
+    less_none h _ (met.row c.args.counts) (met.row c.followed_by-found.result) _ c.sub-left.ensures
+    (last_none h c.size.result c.size.ensures (sym c.if-pair_at.ensures))

@@ -5,10 +5,10 @@ use Rattle.cells.specs.Near.{back}
 use Rattle.measures.specs.Breaks.{in_crlf}
 use Rattle.line_rows.proofs.up_to.is_not_crlf_middle.Goals as goal
 
-pub returns-then-byte-idx-eq0 : goal.returns-then-byte-idx-eq0
-returns-then-byte-idx-eq0 c =
+pub returns-then-byte_idx-eq0 : goal.returns-then-byte_idx-eq0
+returns-then-byte_idx-eq0 c =
     ⊎_elim
     (λ z. ap (λ (p : ℕ). not (in_crlf c.args.text.now p)) (sym z))
-    (λ z. let e = get_or_past c.args.text.now c.args.byte-idx 0 z.1 in
-    ap not (sym (and_right (eqb (back 1 c.args.text.now c.args.byte-idx) 13) (eqb (back 0 c.args.text.now c.args.byte-idx) 10) (ap (λ (b : ℕ). eqb b 10) e))))
-    c.then-byte-idx-eq0.either
+    (λ z. let e = get_or_past c.args.text.now c.args.byte_idx 0 z.1 in
+    ap not (sym (and_right (eqb (back 1 c.args.text.now c.args.byte_idx) 13) (eqb (back 0 c.args.text.now c.args.byte_idx) 10) (ap (λ (b : ℕ). eqb b 10) e))))
+    c.then-byte_idx-eq0.either
