@@ -8,12 +8,12 @@ use Rattle.cue.proofs.place.column_place.Goals as goal
 
 pub returns : goal.returns
 returns c =
-    let last : c.in-ok-last.last ≡ count (line_weight crlf_breaks) c.args.text.bytes.now = same_answer c.in-ok-last.ensures in
-    let from : c.in-ok-from.from ≡ start (line_weight crlf_breaks) c.args.text.bytes.now c.args.line = same_answer c.in-ok-from.ensures in
-    let before : c.in-ok-before.before ≡ index unit_weight c.args.text.bytes.now c.in-ok-from.from = same_answer c.in-ok-before.ensures in
-    let place : c.in-ok-place.place ≡ start unit_weight c.args.text.bytes.now c.saturating-add.result = same_answer c.in-ok-place.ensures in
-    let next : c.in-ok-next.next ≡ start (line_weight crlf_breaks) c.args.text.bytes.now (c.args.line + 1) = same_answer c.in-ok-next.ensures in
+    let last : c.in_ok-last.last ≡ count (line_weight crlf_breaks) c.args.text.bytes.now = same_answer c.in_ok-last.ensures in
+    let from : c.in_ok-from.from ≡ start (line_weight crlf_breaks) c.args.text.bytes.now c.args.line = same_answer c.in_ok-from.ensures in
+    let before : c.in_ok-before.before ≡ index unit_weight c.args.text.bytes.now c.in_ok-from.from = same_answer c.in_ok-before.ensures in
+    let place : c.in_ok-place.place ≡ start unit_weight c.args.text.bytes.now c.saturating_add.result = same_answer c.in_ok-place.ensures in
+    let next : c.in_ok-next.next ≡ start (line_weight crlf_breaks) c.args.text.bytes.now (c.args.line + 1) = same_answer c.in_ok-next.ensures in
     ap Ok
     (in_line c.args.text.bytes.now c.args.text.sound c.args.line c.args.column
-    _ _ _ _ c.saturating-add.result _ _
-    (omega (arith, c.ranges.text)) last c.if-line-last.false from before c.saturating-add.ensures place next c.min.ensures)
+    _ _ _ _ c.saturating_add.result _ _
+    (omega (arith, c.ranges.text)) last c.if-line-last.false from before c.saturating_add.ensures place next c.min.ensures)
