@@ -1,6 +1,6 @@
 -- The start of an index, as a relation. Assumes nothing.
 use Rattle.std.specs.Prelude.{◌≡◌, ℕ, ◌<◌, ◌≤◌, Bool, true, ◌⊎◌, List, length}
-use Rattle.cells.specs.Cells.{index, count, start}
+use Rattle.cells.specs.Cells.{index, count}
 
 module _ (ends : List ℕ → ℕ → Bool) (weight : List ℕ → ℕ → ℕ) where
   -- some first cells, or none, end at p; their weight is then the index of p

@@ -1,6 +1,6 @@
 -- The n bytes of a number, the lowest first: what arithmetic on the number does to each, where none carries.
 -- Assumes nothing.
-use Rattle.std.proofs.Common.{◌≡◌, ℕ, zero, suc, ◌+◌, ◌-◌, ◌*◌, ◌/◌, ◌%◌, ◌^◌, ◌<◌, ◌≤◌, Bool, true, false, ◌&&◌, eqb, List, [], ◌∷◌, ◌++◌, map, length, get_or, take, drop, set, replicate, sym, refl, ap, ◌∙◌, subst, not-suc-le-zero, mul_assoc, mul_comm, pow-suc, mul-add, arith}
+use Rattle.std.proofs.Common.{◌≡◌, ℕ, zero, suc, ◌+◌, ◌-◌, ◌*◌, ◌/◌, ◌%◌, ◌^◌, ◌<◌, ◌≤◌, ◌&&◌, eqb, List, [], ◌∷◌, length, get_or, drop, replicate, refl, ap, ◌∙◌, subst, not-suc-le-zero, mul_assoc, mul_comm, pow-suc, mul-add, arith}
 use native.Mathlib.Nat.{pow-zero}
 use lib.Lanes.{zip2, Each1, Each2, number_l}
 use lib.Bits.{bit_and, bit_or, bit_xor, and_mod, or_mod, xor_mod, and_shr, or_shr, xor_shr}

@@ -1,6 +1,6 @@
 -- Loops over the lanes of a row: one that makes a row, one that adds up, one that looks for what is not 0.
 -- Assumes nothing.
-use Rattle.std.proofs.Common.{◌≡◌, ℕ, suc, ◌+◌, ◌<◌, ◌≤◌, Bool, true, false, ◌&&◌, eqb, List, [], ◌∷◌, ◌++◌, length, get_or, take, set, sym, refl, ap, ◌∙◌, arith, length-set, take_all}
+use Rattle.std.proofs.Common.{◌≡◌, ℕ, ◌+◌, ◌<◌, ◌≤◌, Bool, true, false, ◌&&◌, eqb, List, [], ◌∷◌, ◌++◌, length, get_or, take, set, sym, refl, ap, ◌∙◌, arith, length-set, take_all}
 use lib.Lanes.{sum_l}
 use Rattle.std.proofs.lemmas.List.{take_more_set, take_more}
 use Rattle.chunk.specs.Rows.{Row, is_row, all_zero}

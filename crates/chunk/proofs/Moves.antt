@@ -1,6 +1,6 @@
 -- The n bytes of a number under shifts: by whole lanes, by bits, and across from the number before.
 -- Assumes nothing.
-use Rattle.std.proofs.Common.{◌≡◌, ℕ, zero, suc, ◌+◌, ◌-◌, ◌*◌, ◌/◌, ◌%◌, ◌^◌, ◌<◌, ◌≤◌, List, [], ◌∷◌, ◌++◌, map, get_or, take, drop, replicate, sym, refl, ap, ◌∙◌, subst, not-suc-le-zero, mul_assoc, suc-mul, mul_comm, add-mul, suc-add, pow-suc, zero-add, div-one, add-one, arith, pow-add}
+use Rattle.std.proofs.Common.{◌≡◌, ℕ, zero, suc, ◌+◌, ◌-◌, ◌*◌, ◌/◌, ◌%◌, ◌^◌, ◌<◌, ◌≤◌, ◌∷◌, ◌++◌, get_or, take, drop, replicate, sym, refl, ap, ◌∙◌, subst, not-suc-le-zero, mul_assoc, suc-mul, mul_comm, add-mul, suc-add, pow-suc, zero-add, div-one, add-one, arith, pow-add}
 use native.Mathlib.Nat.{pow-zero, div-div-eq-div-mul, div-eq_of_lt}
 use lib.Pow.{mod-mod-pow}
 use lib.Bits.{bit_and, bit_or, and_mask, or_shifted_r}

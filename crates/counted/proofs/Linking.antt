@@ -1,10 +1,10 @@
 -- The count of a linked rule as summed weights. Assumes nothing.
-use Rattle.std.proofs.Common.{◌≡◌, ℕ, zero, suc, ◌+◌, ◌-◌, ◌<◌, ◌≤◌, min, Bool, true, false, cond, ◌⊎◌, List, length, sym, refl, ap, ◌∙◌, subst, ⊎_elim, arith}
+use Rattle.std.proofs.Common.{◌≡◌, ℕ, zero, suc, ◌+◌, ◌-◌, ◌<◌, ◌≤◌, min, Bool, List, length, sym, ap, ◌∙◌, ⊎_elim, arith}
 use Rattle.std.proofs.lemmas.Bool.{cases_lt}
 use Rattle.scan.specs.Marks.{Rule, counted}
 use Rattle.scan.proofs.Marking.{flag_small, counted_on, counted_next, counted_most}
 use Rattle.utf8.specs.Grammar.{Text}
-use Rattle.cells.specs.Cells.{Lawful, index, count}
+use Rattle.cells.specs.Cells.{Lawful, index}
 use Rattle.cells.specs.Near.{back}
 use Rattle.cells.proofs.Sums.{sum_mono}
 use Rattle.cells.proofs.Places.{sum_next}

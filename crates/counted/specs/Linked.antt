@@ -1,5 +1,5 @@
 -- How the count of a rule's bytes stands for summed weights. Assumes nothing.
-use Rattle.std.specs.Prelude.{◌≡◌, ℕ, ◌+◌, ◌-◌, ◌<◌, ◌≤◌, Bool, false, cond, List, length}
+use Rattle.std.specs.Prelude.{◌≡◌, ℕ, ◌+◌, ◌-◌, ◌<◌, ◌≤◌, Bool, cond, List, length}
 use Rattle.scan.specs.Marks.{Rule, mark, counted}
 use Rattle.utf8.specs.Grammar.{Text}
 use Rattle.cells.specs.Cells.{index}

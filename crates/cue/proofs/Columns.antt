@@ -1,11 +1,11 @@
 -- The place of a column, from the answers of the walks. Assumes nothing.
-use Rattle.std.proofs.Common.{◌≡◌, ℕ, ◌+◌, ◌-◌, ◌^◌, ◌<◌, ◌≤◌, min, Bool, true, ltb, ◌⊎◌, List, length, sym, ap, ◌∙◌, ⊎_elim, arith}
+use Rattle.std.proofs.Common.{◌≡◌, ℕ, ◌+◌, ◌-◌, ◌^◌, ◌<◌, ◌≤◌, min, true, ltb, List, length, sym, ap, ◌∙◌, ⊎_elim, arith}
 use Rattle.std.proofs.lemmas.Bool.{cases_lt, cond-false, le-ltb}
 use Rattle.utf8.specs.FirstFault.{is_text}
 use Rattle.utf8.proofs.Means.{text_from_test}
-use Rattle.cells.specs.Cells.{Lawful, index, count, start}
+use Rattle.cells.specs.Cells.{index, count, start}
 use Rattle.cells.proofs.Starts.{index_two, start_past}
-use Rattle.measures.specs.Chars.{char_ends, unit_weight}
+use Rattle.measures.specs.Chars.{unit_weight}
 use Rattle.measures.specs.Breaks.{line_weight, crlf_breaks}
 use Rattle.measures.specs.Charring.{unit_lawful}
 use Rattle.cue.specs.Places.{column_place}

@@ -1,5 +1,5 @@
 -- What one record more adds to a transcript, and that a transcript is the only one. Assumes nothing.
-use Rattle.std.proofs.Common.{◌≡◌, ℕ, ◌+◌, ◌-◌, ◌<◌, ◌≤◌, Bool, true, false, cond, eqb, leb, List, [], ◌++◌, length, get_or, Some, None, Ok, Err, Option, Result, sym, refl, ap, ◌∙◌, subst, append_assoc, append-nil, arith}
+use Rattle.std.proofs.Common.{◌≡◌, ℕ, ◌+◌, ◌<◌, ◌≤◌, Bool, true, false, cond, eqb, leb, List, [], ◌++◌, length, get_or, Some, None, Ok, Err, Option, Result, sym, refl, ap, ◌∙◌, subst, append_assoc, append-nil, arith}
 use Rattle.std.proofs.lemmas.Bool.{leb-true, le-ltb}
 use Rattle.faults.specs.declared.cue.Fault.{Fault}
 use Rattle.faults.specs.declared.cue.Cause.TheVariants.{Check, Cut}
@@ -12,7 +12,7 @@ use Rattle.cue.specs.Places.{place_of}
 use Rattle.cue.specs.Prints.{line_of, refused_line, too_large, larger, no_text, or_else, not_admitted, Plays, Prints, OnlyPrints}
 use Rattle.cue.specs.Prints.Plays.{ends, answers, refuses}
 use Rattle.cue.specs.Prints.Prints.{refused, plays}
-use Rattle.cue.specs.Records.{record_at, of_kind, whole}
+use Rattle.cue.specs.Records.{record_at, whole}
 
 -- a record goes on, and not past the file's end
 module _ (bs : List ℕ) (p : ℕ) where

@@ -1,15 +1,14 @@
 -- The laws of chars and of UTF-16 units, and their cells in the words of the grammar. Assumes nothing.
-use Rattle.std.specs.Prelude.{◌≡◌, ℕ, zero, suc, ◌+◌, ◌-◌, ◌<◌, ◌≤◌, Bool, true, false, cond, not, ◌&&◌, ◌||◌, ◌⊎◌, List, [], ◌∷◌, ◌++◌, length, ◌==◌, nat_le, nat_lt, slice_index, slice_index_or, refl}
+use Rattle.std.specs.Prelude.{◌≡◌, ℕ, zero, suc, ◌+◌, ◌-◌, ◌<◌, ◌≤◌, Bool, true, false, cond, not, ◌&&◌, ◌||◌, List, ◌++◌, length, ◌==◌, nat_le, nat_lt, slice_index, slice_index_or, refl}
 use Rattle.std.proofs.Common.{sym, ap, subst, ◌∙◌, ⊎_elim, arith, length-append}
 use Rattle.std.proofs.lemmas.List.{get_or-append-add, get_or_append_left}
-use Rattle.std.proofs.lemmas.Bool.{cases_lt, cases_eq, both_ways, cond_both, cond-true, cond-false, lt-ltb, le-leb, lt-leb, le-ltb, eq-eqb, ne_eqb, ltb-true, and_parts, and_from, and_left, and_right, or_left, or_right, or_from, not_from_true}
+use Rattle.std.proofs.lemmas.Bool.{cases_lt, cond_both, cond-true, cond-false, lt-ltb, le-leb, lt-leb, eq-eqb, ne_eqb, and_parts, and_from}
 use Rattle.std.proofs.lemmas.Bool.Decides.{nat_tests}
 use Rattle.utf8.specs.Grammar.{Char, Text}
-use Rattle.utf8.specs.Grammar.Text.{more}
 use Rattle.utf8.specs.Places.{follower, char_start}
 use Rattle.utf8.proofs.Cuts.{Shape, shape, Cut, cut_none, cut_after, cut_from_start, start_from_cut, follower_at, lead_ends, wide}
 use Rattle.cells.specs.Cells.{Lawful}
-use Rattle.cells.specs.Near.{around, last_four, back}
+use Rattle.cells.specs.Near.{around, back}
 use Rattle.cells.proofs.Near.{near_back, last_back, back_in, standing}
 use Rattle.measures.specs.Chars.{char_ends, char_weight, four_bytes, unit_weight}
 use Rattle.measures.specs.CharCells.{CharCell, CharCells}

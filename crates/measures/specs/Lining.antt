@@ -1,18 +1,18 @@
 -- The laws of lines, for every set of breaks that are texts of one to four bytes, none of them 00. Assumes nothing.
-use Rattle.std.specs.Prelude.{◌≡◌, ℕ, zero, suc, ◌+◌, ◌-◌, ◌<◌, ◌≤◌, max, Bool, true, false, cond, not, ◌&&◌, ◌||◌, ◌⊎◌, List, [], ◌∷◌, ◌++◌, length, ◌==◌, nat_le, nat_lt, slice_index, slice_index_or, refl}
+use Rattle.std.specs.Prelude.{◌≡◌, ℕ, zero, suc, ◌+◌, ◌-◌, ◌<◌, ◌≤◌, max, Bool, true, false, cond, not, ◌&&◌, ◌||◌, List, [], ◌∷◌, ◌++◌, length, ◌==◌, nat_le, nat_lt, slice_index, slice_index_or, refl}
 use Rattle.std.proofs.Common.{sym, ap, subst, ◌∙◌, ⊎_elim, arith, length-append}
 use Rattle.std.proofs.lemmas.List.{get_or_append_left}
-use Rattle.std.proofs.lemmas.Bool.{cases_lt, both_ways, lt-ltb, le-leb, leb-true, ltb-true, eq-eqb, ne_eqb, eqb-true, cond-true, cond-false, cond_both, and_parts, and_from, and_left, and_right, or_cases, or_left, or_right, or_parts, or_from, not_from_true}
+use Rattle.std.proofs.lemmas.Bool.{cases_lt, both_ways, lt-ltb, leb-true, ltb-true, eq-eqb, ne_eqb, eqb-true, cond-true, cond-false, cond_both, and_parts, and_from, and_left, and_right, or_cases, or_right, or_parts, or_from, not_from_true}
 use Rattle.utf8.specs.FirstFault.{is_text}
 use Rattle.utf8.specs.Grammar.{Text}
 use Rattle.utf8.specs.Grammar.Text.{none, more}
-use Rattle.utf8.specs.Places.{follower, char_start}
+use Rattle.utf8.specs.Places.{follower}
 use Rattle.utf8.proofs.Cuts.{Cut, Shape, shape, follower_at, start_from_cut, text_ends, wide}
 use Rattle.utf8.proofs.Means.{text_from_test}
 use Rattle.cells.specs.Cells.{Lawful}
 use Rattle.cells.specs.LineCells.{LawfulBreaks}
 use Rattle.cells.specs.Starts.{Joint}
-use Rattle.cells.specs.Near.{around, last_four, back}
+use Rattle.cells.specs.Near.{around, back}
 use Rattle.cells.proofs.Near.{near_back, last_back, back_in, standing}
 use Rattle.measures.specs.Breaks.{ends_at, some_ends, in_crlf, broken, line_ends, line_weight, longest, break_length}
 

@@ -1,5 +1,5 @@
 -- The marks of a text, a row or a byte at a time, and what they sum up to. Assumes nothing.
-use Rattle.std.proofs.Common.{◌≡◌, ℕ, zero, suc, ◌+◌, ◌-◌, ◌<◌, ◌≤◌, Bool, true, false, cond, List, [], ◌∷◌, ◌++◌, length, get_or, take, drop, sym, refl, ap, ◌∙◌, subst, le_of_suc-le-suc, not-suc-le-zero, add-zero, suc-add, zero-add, add-one, arith, length-take, take-take, drop-drop}
+use Rattle.std.proofs.Common.{◌≡◌, ℕ, zero, suc, ◌+◌, ◌-◌, ◌<◌, ◌≤◌, Bool, true, false, cond, List, [], ◌∷◌, ◌++◌, length, get_or, take, drop, sym, refl, ap, ◌∙◌, le_of_suc-le-suc, not-suc-le-zero, add-zero, suc-add, zero-add, add-one, arith, length-take, take-take, drop-drop}
 use lib.Lanes.{Each1, chunk, sum_l}
 use lib.Seq.{take-nil}
 use mir.Val.{bool_byte}

@@ -1,5 +1,5 @@
 -- Units that have begun against units that have ended. Assumes nothing.
-use Rattle.std.proofs.Common.{◌≡◌, ℕ, zero, suc, ◌+◌, ◌-◌, ◌*◌, ◌<◌, ◌≤◌, Bool, true, false, cond, not, ◌&&◌, ◌||◌, eqb, ltb, leb, ◌⊎◌, List, [], ◌∷◌, length, get_or, take, drop, sym, refl, ap, ◌∙◌, subst, inl, inr, ⊎_elim, mul_comm, add-mul, mul-le-mul_left, arith}
+use Rattle.std.proofs.Common.{◌≡◌, ℕ, zero, suc, ◌+◌, ◌-◌, ◌*◌, ◌<◌, ◌≤◌, Bool, true, false, cond, not, leb, ◌⊎◌, List, length, get_or, take, drop, sym, ap, ◌∙◌, subst, inl, inr, ⊎_elim, mul_comm, add-mul, mul-le-mul_left, arith}
 use Rattle.std.proofs.lemmas.List.{get_or_past}
 use Rattle.std.proofs.lemmas.Bool.{cases_lt, cases_Bool, cond-true, cond-false, cond_both, leb-true, both_ways}
 use Rattle.std.proofs.lemmas.Bool.Decides.{nat_tests}
@@ -14,7 +14,7 @@ use Rattle.cells.proofs.Sums.{sum_mono}
 use Rattle.counted.specs.Linked.{ahead}
 use Rattle.counted.proofs.Linking.{linked_index}
 use Rattle.counted.proofs.Seeking.{part}
-use Rattle.measures.specs.Chars.{char_ends, char_weight, four_bytes, unit_weight}
+use Rattle.measures.specs.Chars.{char_ends, four_bytes, unit_weight}
 use Rattle.measures.specs.Counts.{leads, fours, in_char}
 use Rattle.measures.specs.Charring.{char_lawful, unit_lawful}
 use Rattle.measures.specs.Once.{chars_linked}

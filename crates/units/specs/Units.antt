@@ -1,5 +1,5 @@
 -- UTF-16 units by where they begin: both units of a char at its first byte. Assumes nothing.
-use Rattle.std.specs.Prelude.{◌≡◌, ℕ, ◌+◌, ◌*◌, ◌<◌, ◌≤◌, cond, not, List, length, nat_le}
+use Rattle.std.specs.Prelude.{◌≡◌, ℕ, ◌+◌, ◌≤◌, cond, not, List, length, nat_le}
 use Rattle.scan.specs.Marks.{counted}
 use Rattle.utf8.specs.Places.{follower}
 use Rattle.measures.specs.Counts.{leads, fours}

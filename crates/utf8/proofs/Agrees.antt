@@ -1,6 +1,6 @@
 -- At each of the 256 bytes and in each state, the step by the byte's kind is the step by the byte: one test for each state.
 -- Assumes nothing.
-use Rattle.std.proofs.Common.{◌≡◌, ℕ, ◌<◌, Bool, true, false, T, eqb, List, [], ◌∷◌, Some, None, Option, sym, refl, ap, ◌∙◌, subst, eqb→eq}
+use Rattle.std.proofs.Common.{◌≡◌, ℕ, ◌<◌, Bool, true, false, T, eqb, List, [], ◌∷◌, Some, None, Option, refl, ap, eqb→eq}
 use Rattle.utf8.specs.declared.checker.State.{State}
 use Rattle.utf8.specs.declared.checker.State.TheVariants.{First, One, Two, Three, AfterE0, AfterEd, AfterF0, AfterF4}
 use Rattle.utf8.specs.Kinds.{kind_of}

@@ -1,10 +1,10 @@
 -- The chars of the grammar are those of the table of first bytes. Assumes nothing.
-use Rattle.std.proofs.Common.{◌≡◌, ℕ, ◌<◌, ◌≤◌, Bool, true, false, cond, ◌&&◌, leb, ◌⊎◌, List, [], ◌∷◌, ◌++◌, Some, None, Option, sym, refl, ap, ◌∙◌, subst, inl, inr, ⊎_elim, arith}
-use Rattle.std.proofs.lemmas.Bool.{leb-true, leb-false, le-leb, and_from, and_parts}
+use Rattle.std.proofs.Common.{◌≡◌, ℕ, ◌<◌, ◌≤◌, Bool, true, false, cond, leb, List, [], ◌∷◌, Some, None, Option, sym, refl, subst, arith}
+use Rattle.std.proofs.lemmas.Bool.{leb-true, leb-false}
 use Rattle.std.proofs.lemmas.Bool.Decides.{nat_tests}
-use Rattle.utf8.specs.Grammar.{In, Tail, Char}
+use Rattle.utf8.specs.Grammar.{In, Char}
 use Rattle.utf8.specs.Grammar.Char.{utf8_1, utf8_2, utf8_3_e0, utf8_3_e1, utf8_3_ed, utf8_3_ee, utf8_4_f0, utf8_4_f1, utf8_4_f4}
-use Rattle.utf8.specs.FirstFault.{Range, range, tail, within, followers}
+use Rattle.utf8.specs.FirstFault.{Range, range, tail, followers}
 
 -- each byte stands in its range
 abbrev pub Fits : List Range → List ℕ → Type 0

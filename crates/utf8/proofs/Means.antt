@@ -1,15 +1,15 @@
 -- No fault says that the bytes are a text of the grammar, and a fault says where and why they are not.
 -- Assumes nothing.
-use Rattle.std.proofs.Common.{◌≡◌, ℕ, ◌+◌, ◌<◌, ◌≤◌, Bool, true, false, cond, ◌&&◌, leb, ◌⊎◌, List, [], ◌∷◌, ◌++◌, length, take, drop, Some, None, Option, sym, refl, ap, ◌∙◌, subst, inl, inr, ⊎_elim, append_assoc, append-nil, arith, length-append}
+use Rattle.std.proofs.Common.{◌≡◌, ℕ, ◌+◌, ◌<◌, ◌≤◌, Bool, true, false, cond, leb, ◌⊎◌, List, [], ◌∷◌, ◌++◌, length, Some, None, Option, sym, refl, ap, ◌∙◌, subst, inl, inr, append_assoc, append-nil, arith, length-append}
 use Rattle.std.proofs.lemmas.List.{take_at, drop_at, length_push}
 use Rattle.std.proofs.lemmas.Bool.{leb-true, leb-false, le-leb, and_from, and_parts, both_ways}
 use Rattle.faults.specs.declared.check.Cause.TheVariants.{NoFirst, Ends, NoFollower}
 use Rattle.faults.specs.declared.check.Fault.{Fault}
-use Rattle.utf8.specs.Grammar.{In, Tail, Char, Text}
+use Rattle.utf8.specs.Grammar.{In, Char, Text}
 use Rattle.utf8.specs.Grammar.Text.{none, more}
 use Rattle.utf8.specs.Faults.{Begun, Why, Stops}
-use Rattle.utf8.specs.FirstFault.{Range, range, tail, within, followers, due_after, first_place, why_not, at_end, fault_from, first_fault, goes_on, is_text}
-use Rattle.utf8.proofs.Chars.{Fits, Led, led, char}
+use Rattle.utf8.specs.FirstFault.{Range, within, followers, fault_from, first_fault, goes_on, is_text}
+use Rattle.utf8.proofs.Chars.{Fits, led, char}
 use Rattle.utf8.specs.Checks.{Passed, Refused}
 use Rattle.utf8.proofs.Texts.{goes_step, fault_step, no_fault, a_fault}
 

@@ -1,12 +1,11 @@
 -- What one turn of `check` keeps: what is left has the fault that the whole has. Assumes nothing.
-use Rattle.std.proofs.Common.{◌≡◌, ℕ, ◌+◌, ◌<◌, ◌≤◌, true, false, List, [], ◌∷◌, length, get_or, drop, Some, None, Ok, Err, Option, Result, sym, refl, ap, ◌∙◌, subst, MatchResult}
+use Rattle.std.proofs.Common.{◌≡◌, ℕ, ◌+◌, ◌<◌, ◌≤◌, List, ◌∷◌, length, get_or, drop, Some, None, Ok, Err, Result, sym, refl, ap, ◌∙◌, MatchResult}
 use Rattle.std.proofs.lemmas.List.{at_drop_more, at_drop_all}
 use Rattle.utf8.specs.declared.checker.Checker.{Checker}
-use Rattle.utf8.specs.declared.checker.State.{State}
 use Rattle.faults.specs.declared.check.Fault.{Fault}
 use Rattle.utf8.specs.declared.kind.ByteKind.{ByteKind}
 use Rattle.utf8.specs.Kinds.{kind_of}
-use Rattle.utf8.specs.FirstFault.{Range, due_after, first_place, why_not, at_end, fault_from, first_fault, is_text}
+use Rattle.utf8.specs.FirstFault.{Range, due_after, first_place, why_not, fault_from, first_fault}
 use Rattle.utf8.specs.Steps.{due, next, Stepped, Ended}
 use Rattle.utf8.specs.Checks.{Passed, Refused}
 use Rattle.utf8.proofs.Means.{passed, refused}

@@ -1,5 +1,5 @@
 -- Bytes with the fault that they have, or none. Assumes nothing.
-use Rattle.std.specs.Prelude.{◌≡◌, ℕ, List, [], ◌∷◌, Some, None}
+use Rattle.std.specs.Prelude.{◌≡◌, [], ◌∷◌, Some, None}
 use Rattle.faults.specs.declared.check.Cause.TheVariants.{NoFirst, Ends, NoFollower}
 use Rattle.utf8.specs.FirstFault.{first_fault}
 

@@ -1,5 +1,5 @@
 -- A text, by RFC 3629, section 4, and the first fault of bytes that are none. Assumes nothing.
-use Rattle.std.specs.Prelude.{◌≡◌, ℕ, ◌+◌, Bool, true, false, cond, ◌&&◌, List, [], ◌∷◌, Some, None, Option, nat_le}
+use Rattle.std.specs.Prelude.{ℕ, ◌+◌, Bool, true, false, cond, ◌&&◌, List, [], ◌∷◌, Some, None, Option, nat_le}
 use Rattle.faults.specs.declared.check.Cause.{Cause}
 use Rattle.faults.specs.declared.check.Cause.TheVariants.{NoFirst, Ends, NoFollower}
 use Rattle.faults.specs.declared.check.Fault.{Fault}

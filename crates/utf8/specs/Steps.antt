@@ -1,9 +1,8 @@
 -- What the checker does at one byte. Assumes nothing.
-use Rattle.std.specs.Prelude.{◌≡◌, ℕ, ◌+◌, List, [], ◌∷◌, Some, None, Ok, Err, Option, Result}
+use Rattle.std.specs.Prelude.{◌≡◌, ℕ, List, [], ◌∷◌, Some, None, Ok, Err, Option, Result}
 use Rattle.utf8.specs.declared.checker.Checker.{Checker}
 use Rattle.utf8.specs.declared.checker.State.{State}
 use Rattle.utf8.specs.declared.checker.State.TheVariants.{First, One as OneDue, Two as TwoDue, Three as ThreeDue, AfterE0, AfterEd, AfterF0, AfterF4}
-use Rattle.faults.specs.declared.check.Cause.TheVariants.{NoFirst, Ends, NoFollower}
 use Rattle.faults.specs.declared.check.Fault.{Fault}
 use Rattle.utf8.specs.declared.kind.ByteKind.{ByteKind}
 use Rattle.utf8.specs.declared.kind.ByteKind.TheVariants.{One, TailLow, TailMid, TailHigh, Two, ThreeE0, Three, ThreeEd, FourF0, Four, FourF4, Never}

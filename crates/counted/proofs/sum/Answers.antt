@@ -1,4 +1,4 @@
-use Rattle.std.proofs.Common.{◌≡◌, ℕ, ◌-◌, List, refl, ap, ◌∙◌, arith}
+use Rattle.std.proofs.Common.{ℕ, ◌-◌, List, refl, ap, ◌∙◌, arith}
 use Rattle.utf8.proofs.Means.{text_from_test}
 use Rattle.cells.specs.Cells.{index}
 use Rattle.counted.proofs.Linking.{Summing, sum_none, sum_some}

@@ -1,4 +1,4 @@
-use Rattle.std.proofs.Common.{◌≡◌, ℕ, ◌+◌, ◌*◌, ◌<◌, ◌≤◌, ap, ◌∙◌, arith}
+use Rattle.std.proofs.Common.{ℕ, ◌+◌, ◌*◌, ◌≤◌, ap, ◌∙◌, arith}
 use lib.Lanes.{chunk}
 use Rattle.scan.proofs.Adding.{added_fits, added_more}
 use Rattle.scan.proofs.add_row.Goals as goal

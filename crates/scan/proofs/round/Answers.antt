@@ -1,5 +1,4 @@
-use Rattle.std.proofs.Common.{◌≡◌, ℕ, ◌+◌, ◌<◌, ◌≤◌, subst, arith}
-use Rattle.scan.specs.Rounds.{Added}
+use Rattle.std.proofs.Common.{◌≡◌, ◌+◌, arith}
 use Rattle.scan.proofs.Adding.{added_none, room_at, weaker}
 use Rattle.scan.proofs.round.Goals as goal
 

@@ -1,4 +1,4 @@
-use Rattle.std.proofs.Common.{◌-◌, ◌*◌, ◌/◌, ◌%◌, ◌<◌, ◌≤◌, mul-le-mul_right, div-mul-le_self, arith}
+use Rattle.std.proofs.Common.{◌/◌, ◌≤◌, mul-le-mul_right, div-mul-le_self, arith}
 use Rattle.std.proofs.lemmas.Nat.{le-div}
 use Rattle.scan.proofs.round_len.Goals as goal
 

@@ -1,4 +1,4 @@
-use Rattle.std.proofs.Common.{◌≡◌, ℕ, ◌-◌, ◌*◌, ◌≤◌, length, sym, ap, ◌∙◌, mul-le-mul_right, div-mul-le_self, arith}
+use Rattle.std.proofs.Common.{ℕ, ◌-◌, ◌*◌, ◌≤◌, length, sym, ap, ◌∙◌, mul-le-mul_right, div-mul-le_self, arith}
 use Rattle.scan.specs.Marks.{counted}
 use Rattle.utf8.proofs.Means.{text_from_test}
 use Rattle.counted.proofs.Seeking.{reached_rows, reached_few}

@@ -1,4 +1,4 @@
-use Rattle.std.proofs.Common.{◌≡◌, ◌+◌, ◌-◌, sym, ap, ◌∙◌, arith}
+use Rattle.std.proofs.Common.{sym, arith}
 use Rattle.std.proofs.lemmas.Bool.{and_left}
 use Rattle.line_rows.specs.Begins.{begins_at}
 use Rattle.line_rows.specs.Marks.{next_line}

@@ -1,4 +1,4 @@
-use Rattle.std.proofs.Common.{◌≡◌, ℕ, ◌-◌, min, List, length, ap, ◌∙◌, arith}
+use Rattle.std.proofs.Common.{ℕ, ◌-◌, List, ap, ◌∙◌, arith}
 use Rattle.utf8.proofs.Means.{text_from_test}
 use Rattle.cells.specs.Cells.{index}
 use Rattle.measures.specs.Chars.{pair_weight}

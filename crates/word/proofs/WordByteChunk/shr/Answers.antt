@@ -1,4 +1,3 @@
-use Rattle.std.proofs.Common.{arith}
 use Rattle.chunk.proofs.Moves.{bytes_shr}
 use Rattle.word.proofs.WordByteChunk.shr.Goals as goal
 

@@ -2,7 +2,6 @@ use Rattle.std.proofs.Common.{◌≡◌, map, ap, ◌∙◌}
 use lib.Lanes.{zip2}
 use lib.Bits.{bit_and}
 use Rattle.measures.proofs.Flags.{lines_sub, lines_add, lines_add_2, lines_row, pairs_row}
-use Rattle.measures.proofs.lines.LinesScan.flags.Given as given
 use Rattle.measures.proofs.lines.LinesScan.flags.Goals as goal
 
 pub sub-requires : goal.sub-requires
