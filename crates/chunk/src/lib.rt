@@ -10,31 +10,27 @@ pub trait ByteChunk: Copy {
     ghost lanes: { Self → List ℕ };
 
     // How many bytes a row has.
-    ghost width: { ℕ };
+    const SIZE: usize;
 
-    // The largest lane that `sum_bytes` takes.
-    ghost most: { ℕ };
-
-    // How many bytes a row has.
-    fn size() -> usize
-        ensures { result ≡ width };
+    ghost SIZE: { ℕ };
 
     // The largest lane that `sum_bytes` takes: so many rows of flags may be added up before a sum.
-    fn max_acc() -> usize
-        ensures { result ≡ most };
+    const MAX_ACC: usize;
 
-    // The next `size()` bytes of the text at a place.
+    ghost MAX_ACC: { ℕ };
+
+    // The next `SIZE` bytes of the text at a place.
     fn load(text: &[u8], place: usize) -> Self
-        requires { place + width ≤ length text.now }
-        ensures { lanes result ≡ chunk place width text.now };
+        requires { place + SIZE ≤ length text.now }
+        ensures { lanes result ≡ chunk place SIZE text.now };
 
     // 0 in every lane.
     fn zero() -> Self
-        ensures { lanes result ≡ replicate width 0 };
+        ensures { lanes result ≡ replicate SIZE 0 };
 
     // The byte n in every lane.
     fn splat(n: u8) -> Self
-        ensures { lanes result ≡ replicate width n };
+        ensures { lanes result ≡ replicate SIZE n };
 
     // Whether every lane is 0.
     fn is_zero(self) -> bool
@@ -42,12 +38,12 @@ pub trait ByteChunk: Copy {
 
     // Lane i becomes the old lane i + n, or 0 where there is none.
     fn shift_back_lex(self, n: usize) -> Self
-        requires { n ≤ width }
+        requires { n ≤ SIZE }
         ensures { lanes result ≡ moved_back n (lanes self) };
 
     // The last lane of self, then the lanes of other without its last.
     fn shift_across(self, other: Self) -> Self
-        ensures { lanes result ≡ moved_across width (lanes self) (lanes other) };
+        ensures { lanes result ≡ moved_across SIZE (lanes self) (lanes other) };
 
     // Each lane's bits n places lower. The top n bits of a lane are free: mask them before use.
     fn shr(self, n: usize) -> Self
@@ -79,28 +75,28 @@ pub trait ByteChunk: Copy {
 
     // One more in the lane that is n before the last, where that is a byte.
     fn inc_nth_from_end_lex_byte(self, n: usize) -> Self
-        requires { (n < width) × (slice_index (lanes self) (width - 1 - n) < 255) }
-        ensures { lanes result ≡ at_lane (width - 1 - n) (λ x. x + 1) (lanes self) };
+        requires { (n < SIZE) × (slice_index (lanes self) (SIZE - 1 - n) < 255) }
+        ensures { lanes result ≡ at_lane (SIZE - 1 - n) (λ x. x + 1) (lanes self) };
 
     // One less in the last lane, where that is not below 0.
     fn dec_last_lex_byte(self) -> Self
-        requires { 0 < slice_index (lanes self) (width - 1) }
-        ensures { lanes result ≡ at_lane (width - 1) (λ x. x - 1) (lanes self) };
+        requires { 0 < slice_index (lanes self) (SIZE - 1) }
+        ensures { lanes result ≡ at_lane (SIZE - 1) (λ x. x - 1) (lanes self) };
 
-    // The sum of all lanes, where none is above `max_acc()`.
+    // The sum of all lanes, where none is above `MAX_ACC`.
     fn sum_bytes(self) -> usize
-        requires { Each1 (λ x. x ≤ most) (lanes self) }
+        requires { Each1 (λ x. x ≤ MAX_ACC) (lanes self) }
         ensures { result ≡ sum_l (lanes self) };
 
     // A row has at least four lanes.
-    ghost wide: { 4 ≤ width };
+    ghost wide: { 4 ≤ SIZE };
 
     // A lane has room to count every lane of a row, and one more.
-    ghost above: { width < most };
+    ghost above: { SIZE < MAX_ACC };
 
     // What `sum_bytes` takes fits a byte.
-    ghost within: { most ≤ 255 };
+    ghost within: { MAX_ACC ≤ 255 };
 
-    // Every chunk is a row of `width` bytes.
-    ghost row: { (x : Self) → Row width (lanes x) };
+    // Every chunk is a row of `SIZE` bytes.
+    ghost row: { (x : Self) → Row SIZE (lanes x) };
 }

@@ -60,12 +60,12 @@ fn skip<C: Counted, K: ByteChunk>(
     requires so { Reached C.Scan.hit C.Counted.weight text.now k from so_far }
     ensures { Reached C.Scan.hit C.Counted.weight text.now k result.0 result.1 }
 {
-    let size = K::size();
+    let size = K::SIZE;
     let mut place = from;
     let mut count = so_far;
     while (text.len() - place) / size >= least {
         let need = k.saturating_sub(count).saturating_sub(1);
-        let n = skip_len(text.len() - place, size, K::max_acc(), need, least);
+        let n = skip_len(text.len() - place, size, K::MAX_ACC, need, least);
         let more = round::<C, K>(text, place, n);
         if count + more >= k {
             break;

@@ -12,8 +12,6 @@ const SIZE: usize = 16;
 
 const LAST: usize = SIZE - 1;
 
-const MAX_ACC: usize = 31;
-
 #[derive(Clone, Copy)]
 pub struct Lanes16 {
     bytes: [u8; SIZE],
@@ -32,9 +30,13 @@ impl Lanes16 {
 impl ByteChunk for Lanes16 {
     ghost lanes = { λ x. x.bytes };
 
-    ghost width = { 16 };
+    const SIZE: usize = SIZE;
 
-    ghost most = { 31 };
+    ghost SIZE = { 16 };
+
+    const MAX_ACC: usize = 31;
+
+    ghost MAX_ACC = { 31 };
 
     ghost wide = { Prim.search rules };
 
@@ -43,14 +45,6 @@ impl ByteChunk for Lanes16 {
     ghost within = { Prim.search rules };
 
     ghost row = { λ x. row_of x.row };
-
-    fn size() -> usize {
-        SIZE
-    }
-
-    fn max_acc() -> usize {
-        MAX_ACC
-    }
 
     fn load(text: &[u8], place: usize) -> Lanes16 {
         let mut bytes = [0; SIZE];

@@ -35,14 +35,14 @@ fn skip_rows<K: ByteChunk>(
     k: usize,
     rows: usize,
 ) -> (usize, usize)
-    requires rows { (0 < rows) × (rows ≤ K.most) }
+    requires rows { (0 < rows) × (rows ≤ K.MAX_ACC) }
     requires within { from ≤ length text.now }
     requires counted { Counted text.now k so_far from }
     ensures within { result.1 ≤ length text.now }
     ensures counted { Counted text.now k result.0 result.1 }
-    ensures stops { result.1 + rows * K.width ≤ length text.now → k ≤ breaks_in text.now (result.1 + rows * K.width) }
+    ensures stops { result.1 + rows * K.SIZE ≤ length text.now → k ≤ breaks_in text.now (result.1 + rows * K.SIZE) }
 {
-    let step = rows * K::size();
+    let step = rows * K::SIZE;
     let mut count = so_far;
     let mut place = from;
     while text.len() - place >= step {
@@ -63,7 +63,7 @@ pub fn to_byte_idx_impl<K: ByteChunk>(text: Checked<'_>, line_idx: usize, head: 
 {
     let bytes = text.bytes();
     let (count, place) = count_breaks_up_to(bytes, head, line_idx);
-    let (count, place) = skip_rows::<K>(bytes, count, place, line_idx, K::max_acc());
+    let (count, place) = skip_rows::<K>(bytes, count, place, line_idx, K::MAX_ACC);
     let (count, place) = skip_rows::<K>(bytes, count, place, line_idx, 1);
     let rest = &bytes[place..];
     let last = count_breaks_up_to(rest, rest.len(), line_idx - count);
@@ -72,14 +72,14 @@ pub fn to_byte_idx_impl<K: ByteChunk>(text: Checked<'_>, line_idx: usize, head: 
 
 // The breaks that count in a round of rows, no more than one sum takes.
 fn count_rows<K: ByteChunk>(text: &[u8], from: usize, rows: usize) -> usize
-    requires { (rows ≤ K.most) × (from + rows * K.width ≤ length text.now) }
-    ensures { breaks_in text.now from + result ≡ breaks_in text.now (from + rows * K.width) }
+    requires { (rows ≤ K.MAX_ACC) × (from + rows * K.SIZE ≤ length text.now) }
+    ensures { breaks_in text.now from + result ≡ breaks_in text.now (from + rows * K.SIZE) }
 {
     let mut acc = K::zero();
     let mut place = from;
     for row in 0..rows {
         acc = acc.add(count_breaks_in_chunk::<K>(text, place));
-        place += K::size();
+        place += K::SIZE;
     }
     acc.sum_bytes()
 }
@@ -90,11 +90,11 @@ pub fn count_breaks_impl<K: ByteChunk>(text: &[u8], head: usize) -> usize
 {
     let (mut count, mut place) = count_breaks_up_to(text, head, text.len());
 
-    let mut rows = (text.len() - place) / K::size();
+    let mut rows = (text.len() - place) / K::SIZE;
     while rows > 0 {
-        let round = rows.min(K::max_acc());
+        let round = rows.min(K::MAX_ACC);
         count += count_rows::<K>(text, place, round);
-        place += round * K::size();
+        place += round * K::SIZE;
         rows -= round;
     }
 

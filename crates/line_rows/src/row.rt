@@ -24,15 +24,15 @@ fn followed_by<K: ByteChunk>(row: K, flags: K, byte: u8) -> K
 
 // The next lines that begin in the row.
 fn next_lines<K: ByteChunk>(text: &[u8], place: usize, row: K) -> K
-    requires { RowAt text.now place K.width (K.lanes row) }
-    ensures { Marked (begins_at next_line text.now) place K.width (K.lanes result) }
+    requires { RowAt text.now place K.SIZE (K.lanes row) }
+    ensures { Marked (begins_at next_line text.now) place K.SIZE (K.lanes result) }
 {
     let first = row.cmp_eq_byte(0xC2);
     if first.is_zero() {
         return first;
     }
     let found = followed_by(row, first, 0x85);
-    if pair_at(text, place + K::size() - 1, 0xC2, 0x85) {
+    if pair_at(text, place + K::SIZE - 1, 0xC2, 0x85) {
         return found.inc_nth_from_end_lex_byte(0);
     }
     found
@@ -52,15 +52,15 @@ fn separators_within<K: ByteChunk>(row: K, first: K) -> K
 
 // The separators that begin in the row.
 fn separators_from<K: ByteChunk>(text: &[u8], place: usize, row: K) -> K
-    requires { RowAt text.now place K.width (K.lanes row) }
-    ensures { Marked (some_begins separators text.now) place K.width (K.lanes result) }
+    requires { RowAt text.now place K.SIZE (K.lanes row) }
+    ensures { Marked (some_begins separators text.now) place K.SIZE (K.lanes result) }
 {
     let first = row.cmp_eq_byte(0xE2);
     if first.is_zero() {
         return first;
     }
     let found = separators_within(row, first);
-    let end = place + K::size();
+    let end = place + K::SIZE;
     if separator_at(text, end - 2) {
         return found.inc_nth_from_end_lex_byte(1);
     }
@@ -72,8 +72,8 @@ fn separators_from<K: ByteChunk>(text: &[u8], place: usize, row: K) -> K
 
 // The counts without the CR of each CR LF, which counts at its LF.
 fn without_crlf<K: ByteChunk>(text: &[u8], place: usize, row: K, counts: K) -> K
-    requires { (RowAt text.now place K.width (K.lanes row)) × (((i : ℕ) → i < K.width → flag (begins_at cr_lf text.now (place + i)) ≤ slice_index (K.lanes counts) i)) }
-    ensures { (i : ℕ) → i < K.width → slice_index (K.lanes result) i ≡ slice_index (K.lanes counts) i - flag (begins_at cr_lf text.now (place + i)) }
+    requires { (RowAt text.now place K.SIZE (K.lanes row)) × (((i : ℕ) → i < K.SIZE → flag (begins_at cr_lf text.now (place + i)) ≤ slice_index (K.lanes counts) i)) }
+    ensures { (i : ℕ) → i < K.SIZE → slice_index (K.lanes result) i ≡ slice_index (K.lanes counts) i - flag (begins_at cr_lf text.now (place + i)) }
 {
     let first = row.cmp_eq_byte(CR);
     if first.is_zero() {
@@ -81,7 +81,7 @@ fn without_crlf<K: ByteChunk>(text: &[u8], place: usize, row: K, counts: K) -> K
     }
     let found = followed_by(row, first, LF);
     let left = counts.sub(found);
-    if pair_at(text, place + K::size() - 1, CR, LF) {
+    if pair_at(text, place + K::SIZE - 1, CR, LF) {
         return left.dec_last_lex_byte();
     }
     left
@@ -89,8 +89,8 @@ fn without_crlf<K: ByteChunk>(text: &[u8], place: usize, row: K, counts: K) -> K
 
 // Where breaks count in the row at a place.
 pub fn count_breaks_in_chunk<K: ByteChunk>(text: &[u8], place: usize) -> K
-    requires { place + K.width ≤ length text.now }
-    ensures { K.lanes result ≡ break_marks text.now place K.width }
+    requires { place + K.SIZE ≤ length text.now }
+    ensures { K.lanes result ≡ break_marks text.now place K.SIZE }
 {
     let row = K::load(text, place);
     let low = row.bytes_between_127(0x09, 0x0E);

@@ -9,7 +9,7 @@ use crate::kind::Shown;
 fn sums_fit<K: Shown>(a: K, b: K) -> bool
     ensures { result ≡ true → Each2 (λ x y. x + y < 256) (K.ByteChunk.lanes a) (K.ByteChunk.lanes b) }
 {
-    for i in 0..K::size() {
+    for i in 0..K::SIZE {
         if a.shown(i) > 255 - b.shown(i) {
             return false;
         }
@@ -21,7 +21,7 @@ fn sums_fit<K: Shown>(a: K, b: K) -> bool
 fn differences_fit<K: Shown>(a: K, b: K) -> bool
     ensures { result ≡ true → Each2 (λ x y. y ≤ x) (K.ByteChunk.lanes a) (K.ByteChunk.lanes b) }
 {
-    for i in 0..K::size() {
+    for i in 0..K::SIZE {
         if a.shown(i) < b.shown(i) {
             return false;
         }
@@ -31,10 +31,10 @@ fn differences_fit<K: Shown>(a: K, b: K) -> bool
 
 // Whether no lane is above what a sum takes.
 fn lanes_fit<K: Shown>(a: K) -> bool
-    ensures { result ≡ true → Each1 (λ x. x ≤ K.ByteChunk.most) (K.ByteChunk.lanes a) }
+    ensures { result ≡ true → Each1 (λ x. x ≤ K.ByteChunk.MAX_ACC) (K.ByteChunk.lanes a) }
 {
-    for i in 0..K::size() {
-        if a.shown(i) as usize > K::max_acc() {
+    for i in 0..K::SIZE {
+        if a.shown(i) as usize > K::MAX_ACC {
             return false;
         }
     }
@@ -42,14 +42,14 @@ fn lanes_fit<K: Shown>(a: K) -> bool
 }
 
 fn loaded<K: Shown>(text: &[u8], place: usize) -> Option<K> {
-    if place > text.len() || text.len() - place < K::size() {
+    if place > text.len() || text.len() - place < K::SIZE {
         return None;
     }
     Some(K::load(text, place))
 }
 
 fn moved_back<K: Shown>(row: K, n: usize) -> Option<K> {
-    if n > K::size() {
+    if n > K::SIZE {
         return None;
     }
     Some(row.shift_back_lex(n))
@@ -85,14 +85,14 @@ fn lessened<K: Shown>(row: K, other: K) -> Option<K> {
 }
 
 fn increased<K: Shown>(row: K, n: usize) -> Option<K> {
-    if n >= K::size() || row.shown(K::size() - 1 - n) == 255 {
+    if n >= K::SIZE || row.shown(K::SIZE - 1 - n) == 255 {
         return None;
     }
     Some(row.inc_nth_from_end_lex_byte(n))
 }
 
 fn decreased<K: Shown>(row: K) -> Option<K> {
-    if row.shown(K::size().saturating_sub(1)) == 0 {
+    if row.shown(K::SIZE.saturating_sub(1)) == 0 {
         return None;
     }
     Some(row.dec_last_lex_byte())
@@ -109,7 +109,7 @@ fn same_row<K: Shown>(row: Option<K>, expected: &[u8]) -> bool {
     let Some(row) = row else {
         return expected.is_empty();
     };
-    if expected.len() != K::size() {
+    if expected.len() != K::SIZE {
         return false;
     }
     for i in 0..expected.len() {

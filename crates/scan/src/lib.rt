@@ -62,12 +62,12 @@ struct Rows<K> {
 
 // Adds the flags of row i of those from a place on.
 fn add_row<S: Scan, K: ByteChunk>(text: &[u8], from: usize, i: usize, rows: Rows<K>) -> Rows<K>
-    requires room { from + (i + 1) * K.ByteChunk.width ≤ length text.now }
-    requires few { i < K.ByteChunk.most }
-    requires so { Added S.Scan.hit text.now K.ByteChunk.width from i (K.ByteChunk.lanes rows.sums) (K.ByteChunk.lanes rows.older) (K.ByteChunk.lanes rows.last) }
-    ensures { Added S.Scan.hit text.now K.ByteChunk.width from (i + 1) (K.ByteChunk.lanes result.sums) (K.ByteChunk.lanes result.older) (K.ByteChunk.lanes result.last) }
+    requires room { from + (i + 1) * K.ByteChunk.SIZE ≤ length text.now }
+    requires few { i < K.ByteChunk.MAX_ACC }
+    requires so { Added S.Scan.hit text.now K.ByteChunk.SIZE from i (K.ByteChunk.lanes rows.sums) (K.ByteChunk.lanes rows.older) (K.ByteChunk.lanes rows.last) }
+    ensures { Added S.Scan.hit text.now K.ByteChunk.SIZE from (i + 1) (K.ByteChunk.lanes result.sums) (K.ByteChunk.lanes result.older) (K.ByteChunk.lanes result.last) }
 {
-    let row = K::load(text, from + i * K::size());
+    let row = K::load(text, from + i * K::SIZE);
     let near = rows.last.shift_across(row);
     let far = rows.older.shift_across(near);
     let found = S::flags(far, near, row);
@@ -80,9 +80,9 @@ fn add_row<S: Scan, K: ByteChunk>(text: &[u8], from: usize, i: usize, rows: Rows
 
 // A round: the count in n whole rows from a place on, four at a time, with one sum at the end.
 pub fn round<S: Scan, K: ByteChunk>(text: &[u8], from: usize, n: usize) -> usize
-    requires few { n ≤ K.ByteChunk.most }
-    requires room { from + n * K.ByteChunk.width ≤ length text.now }
-    ensures { result ≡ counted S.Scan.hit text.now from (n * K.ByteChunk.width) }
+    requires few { n ≤ K.ByteChunk.MAX_ACC }
+    requires room { from + n * K.ByteChunk.SIZE ≤ length text.now }
+    ensures { result ≡ counted S.Scan.hit text.now from (n * K.ByteChunk.SIZE) }
 {
     let mut rows = Rows {
         sums: K::zero(),
@@ -121,12 +121,12 @@ pub fn count<S: Scan, K: ByteChunk>(text: &[u8], from: usize, to: usize, head: u
     requires within { to ≤ length text.now }
     ensures { result ≡ counted S.Scan.hit text.now from (to - from) }
 {
-    let size = K::size();
+    let size = K::SIZE;
     let start = from + head.min(to - from);
     let mut count = singly::<S>(text, from, start);
     let mut place = start;
     while to - place >= size {
-        let n = round_len(to - place, size, K::max_acc());
+        let n = round_len(to - place, size, K::MAX_ACC);
         count += round::<S, K>(text, place, n);
         place += n * size;
     }

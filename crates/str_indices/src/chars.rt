@@ -14,7 +14,7 @@ use utf8::Checked;
 
 // Counts the chars of a text.
 pub fn count<K: ByteChunk>(text: Checked<'_>, head: usize) -> Result<usize, Fault>
-    ensures { result ≡ answer K.ByteChunk.width head (count char_weight text.entry.bytes.now) }
+    ensures { result ≡ answer K.ByteChunk.SIZE head (count char_weight text.entry.bytes.now) }
 {
     head_below::<K>(head)?;
     Ok(count_impl::<K>(text, head))
@@ -26,7 +26,7 @@ pub fn from_byte_idx<K: ByteChunk>(
     byte_idx: usize,
     head: usize,
 ) -> Result<usize, Fault>
-    ensures { result ≡ answer K.ByteChunk.width head (index char_weight text.entry.bytes.now byte_idx) }
+    ensures { result ≡ answer K.ByteChunk.SIZE head (index char_weight text.entry.bytes.now byte_idx) }
 {
     head_below::<K>(head)?;
     Ok(from_byte_idx_impl::<K>(text, byte_idx, head))
@@ -38,7 +38,7 @@ pub fn to_byte_idx<K: ByteChunk>(
     char_idx: usize,
     head: usize,
 ) -> Result<usize, Fault>
-    ensures { result ≡ answer K.ByteChunk.width head (start char_weight text.entry.bytes.now char_idx) }
+    ensures { result ≡ answer K.ByteChunk.SIZE head (start char_weight text.entry.bytes.now char_idx) }
 {
     head_below::<K>(head)?;
     Ok(to_byte_idx_impl::<K>(text, char_idx, head))
@@ -46,7 +46,7 @@ pub fn to_byte_idx<K: ByteChunk>(
 
 // The same of bytes, if they are a text.
 pub fn count_bytes<K: ByteChunk>(bytes: &[u8], head: usize) -> Result<usize, Fault>
-    ensures { result ≡ answer_bytes K.ByteChunk.width head bytes.now (count char_weight bytes.now) }
+    ensures { result ≡ answer_bytes K.ByteChunk.SIZE head bytes.now (count char_weight bytes.now) }
 {
     let mut held = Checked::new();
     admit::<K>(&mut held, bytes, head)?;
@@ -58,7 +58,7 @@ pub fn from_byte_idx_bytes<K: ByteChunk>(
     byte_idx: usize,
     head: usize,
 ) -> Result<usize, Fault>
-    ensures { result ≡ answer_bytes K.ByteChunk.width head bytes.now (index char_weight bytes.now byte_idx) }
+    ensures { result ≡ answer_bytes K.ByteChunk.SIZE head bytes.now (index char_weight bytes.now byte_idx) }
 {
     let mut held = Checked::new();
     admit::<K>(&mut held, bytes, head)?;
@@ -70,7 +70,7 @@ pub fn to_byte_idx_bytes<K: ByteChunk>(
     char_idx: usize,
     head: usize,
 ) -> Result<usize, Fault>
-    ensures { result ≡ answer_bytes K.ByteChunk.width head bytes.now (start char_weight bytes.now char_idx) }
+    ensures { result ≡ answer_bytes K.ByteChunk.SIZE head bytes.now (start char_weight bytes.now char_idx) }
 {
     let mut held = Checked::new();
     admit::<K>(&mut held, bytes, head)?;

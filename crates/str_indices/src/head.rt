@@ -8,9 +8,9 @@ use utf8::Checked;
 
 // Refuses a head that is not below the number of lanes.
 pub fn head_below<K: ByteChunk>(head: usize) -> Result<(), Fault>
-    ensures { MatchResult result (λ _. head < K.ByteChunk.width) (λ f. (K.ByteChunk.width ≤ head) × (f ≡ head_fault head)) }
+    ensures { MatchResult result (λ _. head < K.ByteChunk.SIZE) (λ f. (K.ByteChunk.SIZE ≤ head) × (f ≡ head_fault head)) }
 {
-    if head >= K::size() {
+    if head >= K::SIZE {
         return Err(Fault {
             place: head,
             cause: Cause::Head,
@@ -25,7 +25,7 @@ pub fn admit<'a, K: ByteChunk>(
     bytes: &'a [u8],
     head: usize,
 ) -> Result<(), Fault>
-    ensures { MatchResult result (λ _. Admitted K.ByteChunk.width head bytes.now held.new.bytes.now) (λ f. Declined K.ByteChunk.width head bytes.now f) }
+    ensures { MatchResult result (λ _. Admitted K.ByteChunk.SIZE head bytes.now held.new.bytes.now) (λ f. Declined K.ByteChunk.SIZE head bytes.now f) }
 {
     head_below::<K>(head)?;
     held.check(bytes)?;

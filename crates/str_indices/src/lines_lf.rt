@@ -14,7 +14,7 @@ use utf8::Checked;
 
 // Counts the line breaks of a text.
 pub fn count_breaks<K: ByteChunk>(text: Checked<'_>, head: usize) -> Result<usize, Fault>
-    ensures { result ≡ answer K.ByteChunk.width head (count (line_weight lf_breaks) text.entry.bytes.now) }
+    ensures { result ≡ answer K.ByteChunk.SIZE head (count (line_weight lf_breaks) text.entry.bytes.now) }
 {
     head_below::<K>(head)?;
     Ok(count_breaks_impl::<K>(text, head))
@@ -26,7 +26,7 @@ pub fn from_byte_idx<K: ByteChunk>(
     byte_idx: usize,
     head: usize,
 ) -> Result<usize, Fault>
-    ensures { result ≡ answer K.ByteChunk.width head (index (line_weight lf_breaks) text.entry.bytes.now byte_idx) }
+    ensures { result ≡ answer K.ByteChunk.SIZE head (index (line_weight lf_breaks) text.entry.bytes.now byte_idx) }
 {
     head_below::<K>(head)?;
     Ok(from_byte_idx_impl::<K>(text, byte_idx, head))
@@ -38,7 +38,7 @@ pub fn to_byte_idx<K: ByteChunk>(
     line_idx: usize,
     head: usize,
 ) -> Result<usize, Fault>
-    ensures { result ≡ answer K.ByteChunk.width head (start (line_weight lf_breaks) text.entry.bytes.now line_idx) }
+    ensures { result ≡ answer K.ByteChunk.SIZE head (start (line_weight lf_breaks) text.entry.bytes.now line_idx) }
 {
     head_below::<K>(head)?;
     Ok(to_byte_idx_impl::<K>(text, line_idx, head))
@@ -46,7 +46,7 @@ pub fn to_byte_idx<K: ByteChunk>(
 
 // The same of bytes, if they are a text.
 pub fn count_breaks_bytes<K: ByteChunk>(bytes: &[u8], head: usize) -> Result<usize, Fault>
-    ensures { result ≡ answer_bytes K.ByteChunk.width head bytes.now (count (line_weight lf_breaks) bytes.now) }
+    ensures { result ≡ answer_bytes K.ByteChunk.SIZE head bytes.now (count (line_weight lf_breaks) bytes.now) }
 {
     let mut held = Checked::new();
     admit::<K>(&mut held, bytes, head)?;
@@ -58,7 +58,7 @@ pub fn from_byte_idx_bytes<K: ByteChunk>(
     byte_idx: usize,
     head: usize,
 ) -> Result<usize, Fault>
-    ensures { result ≡ answer_bytes K.ByteChunk.width head bytes.now (index (line_weight lf_breaks) bytes.now byte_idx) }
+    ensures { result ≡ answer_bytes K.ByteChunk.SIZE head bytes.now (index (line_weight lf_breaks) bytes.now byte_idx) }
 {
     let mut held = Checked::new();
     admit::<K>(&mut held, bytes, head)?;
@@ -70,7 +70,7 @@ pub fn to_byte_idx_bytes<K: ByteChunk>(
     line_idx: usize,
     head: usize,
 ) -> Result<usize, Fault>
-    ensures { result ≡ answer_bytes K.ByteChunk.width head bytes.now (start (line_weight lf_breaks) bytes.now line_idx) }
+    ensures { result ≡ answer_bytes K.ByteChunk.SIZE head bytes.now (start (line_weight lf_breaks) bytes.now line_idx) }
 {
     let mut held = Checked::new();
     admit::<K>(&mut held, bytes, head)?;

@@ -15,7 +15,7 @@ use utf8::Checked;
 
 // Counts the units that a text takes in UTF-16.
 pub fn count<K: ByteChunk>(text: Checked<'_>, head: usize) -> Result<usize, Fault>
-    ensures { result ≡ answer K.ByteChunk.width head (count unit_weight text.entry.bytes.now) }
+    ensures { result ≡ answer K.ByteChunk.SIZE head (count unit_weight text.entry.bytes.now) }
 {
     head_below::<K>(head)?;
     Ok(count_impl::<K>(text, head))
@@ -23,7 +23,7 @@ pub fn count<K: ByteChunk>(text: Checked<'_>, head: usize) -> Result<usize, Faul
 
 // Counts the surrogate pairs that a text takes in UTF-16: its chars of four bytes.
 pub fn count_surrogates<K: ByteChunk>(text: Checked<'_>, head: usize) -> Result<usize, Fault>
-    ensures { result ≡ answer K.ByteChunk.width head (count pair_weight text.entry.bytes.now) }
+    ensures { result ≡ answer K.ByteChunk.SIZE head (count pair_weight text.entry.bytes.now) }
 {
     head_below::<K>(head)?;
     Ok(count_surrogates_impl::<K>(text, head))
@@ -35,7 +35,7 @@ pub fn from_byte_idx<K: ByteChunk>(
     byte_idx: usize,
     head: usize,
 ) -> Result<usize, Fault>
-    ensures { result ≡ answer K.ByteChunk.width head (index unit_weight text.entry.bytes.now byte_idx) }
+    ensures { result ≡ answer K.ByteChunk.SIZE head (index unit_weight text.entry.bytes.now byte_idx) }
 {
     head_below::<K>(head)?;
     Ok(from_byte_idx_impl::<K>(text, byte_idx, head))
@@ -47,7 +47,7 @@ pub fn to_byte_idx<K: ByteChunk>(
     utf16_idx: usize,
     head: usize,
 ) -> Result<usize, Fault>
-    ensures { result ≡ answer K.ByteChunk.width head (start unit_weight text.entry.bytes.now utf16_idx) }
+    ensures { result ≡ answer K.ByteChunk.SIZE head (start unit_weight text.entry.bytes.now utf16_idx) }
 {
     head_below::<K>(head)?;
     Ok(to_byte_idx_impl::<K>(text, utf16_idx, head))
@@ -55,7 +55,7 @@ pub fn to_byte_idx<K: ByteChunk>(
 
 // The same of bytes, if they are a text.
 pub fn count_bytes<K: ByteChunk>(bytes: &[u8], head: usize) -> Result<usize, Fault>
-    ensures { result ≡ answer_bytes K.ByteChunk.width head bytes.now (count unit_weight bytes.now) }
+    ensures { result ≡ answer_bytes K.ByteChunk.SIZE head bytes.now (count unit_weight bytes.now) }
 {
     let mut held = Checked::new();
     admit::<K>(&mut held, bytes, head)?;
@@ -63,7 +63,7 @@ pub fn count_bytes<K: ByteChunk>(bytes: &[u8], head: usize) -> Result<usize, Fau
 }
 
 pub fn count_surrogates_bytes<K: ByteChunk>(bytes: &[u8], head: usize) -> Result<usize, Fault>
-    ensures { result ≡ answer_bytes K.ByteChunk.width head bytes.now (count pair_weight bytes.now) }
+    ensures { result ≡ answer_bytes K.ByteChunk.SIZE head bytes.now (count pair_weight bytes.now) }
 {
     let mut held = Checked::new();
     admit::<K>(&mut held, bytes, head)?;
@@ -75,7 +75,7 @@ pub fn from_byte_idx_bytes<K: ByteChunk>(
     byte_idx: usize,
     head: usize,
 ) -> Result<usize, Fault>
-    ensures { result ≡ answer_bytes K.ByteChunk.width head bytes.now (index unit_weight bytes.now byte_idx) }
+    ensures { result ≡ answer_bytes K.ByteChunk.SIZE head bytes.now (index unit_weight bytes.now byte_idx) }
 {
     let mut held = Checked::new();
     admit::<K>(&mut held, bytes, head)?;
@@ -87,7 +87,7 @@ pub fn to_byte_idx_bytes<K: ByteChunk>(
     utf16_idx: usize,
     head: usize,
 ) -> Result<usize, Fault>
-    ensures { result ≡ answer_bytes K.ByteChunk.width head bytes.now (start unit_weight bytes.now utf16_idx) }
+    ensures { result ≡ answer_bytes K.ByteChunk.SIZE head bytes.now (start unit_weight bytes.now utf16_idx) }
 {
     let mut held = Checked::new();
     admit::<K>(&mut held, bytes, head)?;

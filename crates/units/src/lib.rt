@@ -42,9 +42,9 @@ fn by_bytes(text: &[u8], from: usize, to: usize, so_far: usize, k: usize) -> (us
 
 // The units that begin in n rows from a place on.
 fn units_in_rows<K: ByteChunk>(text: &[u8], place: usize, n: usize) -> usize
-    requires few { n ≤ K.ByteChunk.most }
-    requires room { place + n * K.ByteChunk.width ≤ length text.now }
-    ensures { begun text.now place + result ≡ begun text.now (place + n * K.ByteChunk.width) }
+    requires few { n ≤ K.ByteChunk.MAX_ACC }
+    requires room { place + n * K.ByteChunk.SIZE ≤ length text.now }
+    ensures { begun text.now place + result ≡ begun text.now (place + n * K.ByteChunk.SIZE) }
 {
     round::<Chars, K>(text, place, n) + round::<Surrogates, K>(text, place, n)
 }
@@ -68,8 +68,8 @@ fn by_rounds<K: ByteChunk>(text: &[u8], from: usize, so_far: usize, k: usize) ->
     requires so { Begun text.now k from so_far }
     ensures { Begun text.now k result.0 result.1 }
 {
-    let size = K::size();
-    let most = K::max_acc();
+    let size = K::SIZE;
+    let most = K::MAX_ACC;
     let mut max_round_len = (k - so_far) / most;
     let mut place = from;
     let mut count = so_far;
@@ -87,7 +87,7 @@ fn by_rows<K: ByteChunk>(text: &[u8], from: usize, so_far: usize, k: usize) -> (
     requires { Begun text.now k from so_far }
     ensures { Begun text.now k result.0 result.1 }
 {
-    let size = K::size();
+    let size = K::SIZE;
     let mut place = from;
     let mut count = so_far;
     while text.len() - place >= size {

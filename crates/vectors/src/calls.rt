@@ -96,7 +96,7 @@ pub fn every_head<K: ByteChunk>(
     if text.check(bytes).is_err() {
         return false;
     }
-    for head in 0..K::size() {
+    for head in 0..K::SIZE {
         if !is_answer(on_text::<K>(question, name, text, at, head), expected)
             || !is_answer(on_bytes::<K>(question, name, bytes, at, head), expected)
         {
@@ -112,7 +112,7 @@ pub fn pairs_agree<K: ByteChunk>(bytes: &[u8], expected: usize) -> bool {
     if text.check(bytes).is_err() {
         return false;
     }
-    for head in 0..K::size() {
+    for head in 0..K::SIZE {
         if !is_answer(utf16::count_surrogates::<K>(text, head), expected)
             || !is_answer(utf16::count_surrogates_bytes::<K>(bytes, head), expected)
         {

@@ -12,9 +12,6 @@ const SIZE: usize = 8;
 
 const LAST: usize = SIZE - 1;
 
-// Eight lanes of 31 sum up to 248, eight of 32 no longer fit the byte that `sum_bytes` reads.
-const MAX_ACC: usize = 31;
-
 // 1 in every lane, the top bit of every lane, and every bit but those.
 const ONES: u64 = u64::MAX / 0xff;
 
@@ -43,9 +40,14 @@ impl Word {
 impl ByteChunk for Word {
     ghost lanes = { λ w. bytes_of 8 w.bits };
 
-    ghost width = { 8 };
+    const SIZE: usize = SIZE;
 
-    ghost most = { 31 };
+    ghost SIZE = { 8 };
+
+    // Eight lanes of 31 sum up to 248, eight of 32 no longer fit the byte that `sum_bytes` reads.
+    const MAX_ACC: usize = 31;
+
+    ghost MAX_ACC = { 31 };
 
     ghost wide = { Prim.search rules };
 
@@ -54,14 +56,6 @@ impl ByteChunk for Word {
     ghost within = { Prim.search rules };
 
     ghost row = { λ x. bytes_row 8 x.bits };
-
-    fn size() -> usize {
-        SIZE
-    }
-
-    fn max_acc() -> usize {
-        MAX_ACC
-    }
 
     fn load(text: &[u8], place: usize) -> Word {
         let mut bytes = [0; SIZE];

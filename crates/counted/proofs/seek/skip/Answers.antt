@@ -7,9 +7,9 @@ use Rattle.counted.proofs.seek.skip.Goals as goal
 pub skip_len-n-requires : goal.skip_len-n-requires
 skip_len-n-requires g c =
     let met = g.met.K.ByteChunk in
-    let fits : c.args.least * c.size-size.result ≤ length c.args.text.now - c.loop-place.place =
-    omega (arith, div-mul-le_self (length c.args.text.now - c.loop-place.place) c.size-size.result, mul-le-mul_right c.size-size.result c.loop-place-test.true) in
-    record { some = omega (arith, c.size-size.ensures, met.wide); least = (c.requires.least.0, (omega (arith, c.max_acc.ensures, met.wide, met.above, c.requires.least.1), fits)) }
+    let fits : c.args.least * c.SIZE-size.result ≤ length c.args.text.now - c.loop-place.place =
+    omega (arith, div-mul-le_self (length c.args.text.now - c.loop-place.place) c.SIZE-size.result, mul-le-mul_right c.SIZE-size.result c.loop-place-test.true) in
+    record { some = omega (arith, c.SIZE-size.ensures, met.wide); least = (c.requires.least.0, (omega (arith, c.MAX_ACC.ensures, met.wide, met.above, c.requires.least.1), fits)) }
 
 pub overflow_add-count : goal.overflow_add-count
 overflow_add-count g c =
@@ -17,15 +17,15 @@ overflow_add-count g c =
       arith,
       c.loop-place.invariant.within,
       c.skip_len-n.ensures.fits,
-      reached_few g.met.C.Counted.lawful g.met.C.Counted.linked c.args.text.now (text_from_test _ c.requires.sound) c.loop-place.invariant (c.skip_len-n.result * c.size-size.result) c.round-more.result (c.round-more.ensures ∙ ap (λ (w : ℕ). counted g.C.Scan.hit c.args.text.now c.loop-place.place (c.skip_len-n.result * w)) (sym c.size-size.ensures)),
+      reached_few g.met.C.Counted.lawful g.met.C.Counted.linked c.args.text.now (text_from_test _ c.requires.sound) c.loop-place.invariant (c.skip_len-n.result * c.SIZE-size.result) c.round-more.result (c.round-more.ensures ∙ ap (λ (w : ℕ). counted g.C.Scan.hit c.args.text.now c.loop-place.place (c.skip_len-n.result * w)) (sym c.SIZE-size.ensures)),
     )
 
 pub loop-place-smaller : goal.loop-place-smaller
 loop-place-smaller g c =
-    let some : 1 * c.size-size.result ≤ c.skip_len-n.result * c.size-size.result = mul-le-mul_right c.size-size.result c.skip_len-n.ensures.some in
+    let some : 1 * c.SIZE-size.result ≤ c.skip_len-n.result * c.SIZE-size.result = mul-le-mul_right c.SIZE-size.result c.skip_len-n.ensures.some in
     omega (arith, g.met.K.ByteChunk.wide, c.skip_len-n.ensures.fits)
 
 pub loop-place-preserved : goal.loop-place-preserved
 loop-place-preserved g c =
-    reached_rows g.met.C.Counted.lawful g.met.C.Counted.linked c.args.text.now (text_from_test _ c.requires.sound) c.loop-place.invariant (c.skip_len-n.result * c.size-size.result) c.round-more.result
-    (omega (arith, c.loop-place.invariant.within, c.skip_len-n.ensures.fits)) (c.round-more.ensures ∙ ap (λ (w : ℕ). counted g.C.Scan.hit c.args.text.now c.loop-place.place (c.skip_len-n.result * w)) (sym c.size-size.ensures)) c.if-count-more.false
+    reached_rows g.met.C.Counted.lawful g.met.C.Counted.linked c.args.text.now (text_from_test _ c.requires.sound) c.loop-place.invariant (c.skip_len-n.result * c.SIZE-size.result) c.round-more.result
+    (omega (arith, c.loop-place.invariant.within, c.skip_len-n.ensures.fits)) (c.round-more.ensures ∙ ap (λ (w : ℕ). counted g.C.Scan.hit c.args.text.now c.loop-place.place (c.skip_len-n.result * w)) (sym c.SIZE-size.ensures)) c.if-count-more.false

@@ -4,7 +4,7 @@ use Rattle.line_rows.proofs.row.count_breaks_in_chunk.Given as given
 use Rattle.line_rows.proofs.row.count_breaks_in_chunk.Goals as goal
 use Rattle.line_rows.proofs.row.count_breaks_in_chunk.Goals.{After-load-row, After-add}
 
-loaded : (g : given.Over) (c : After-load-row g) → RowAt c.args.text.now c.args.place g.K.ByteChunk.width (g.K.ByteChunk.lanes c.load-row.result)
+loaded : (g : given.Over) (c : After-load-row g) → RowAt c.args.text.now c.args.place g.K.ByteChunk.SIZE (g.K.ByteChunk.lanes c.load-row.result)
 loaded g c = record { fits = c.requires; is = c.load-row.ensures }
 
 pub next_lines-requires : goal.next_lines-requires
@@ -24,7 +24,7 @@ add-requires g c =
     all_fits (loaded g (goal.at.add-requires g c).After-load-row) _ _ (met.row c.next_lines.result) (met.row c.separators_from.result) c.next_lines.ensures c.separators_from.ensures
     _ _ (met.row c.add-long.result) (met.row c.bytes_between_127-low.result) c.add-long.ensures c.bytes_between_127-low.ensures
 
-summed : (g : given.Over) (c : After-add g) → Summed c.args.text.now c.args.place g.K.ByteChunk.width (g.K.ByteChunk.lanes c.add.result)
+summed : (g : given.Over) (c : After-add g) → Summed c.args.text.now c.args.place g.K.ByteChunk.SIZE (g.K.ByteChunk.lanes c.add.result)
 summed g c =
     let met = g.met.K.ByteChunk in
     all_summed (record { fits = c.requires; is = c.load-row.ensures }) _ _ (met.row c.next_lines.result) (met.row c.separators_from.result) c.next_lines.ensures c.separators_from.ensures

@@ -9,7 +9,7 @@ use Rattle.line_rows.proofs.row.next_lines.Goals as goal
 use Rattle.line_rows.proofs.row.next_lines.Goals.{After-followed_by-found}
 
 -- but for the last lane, what is found is right
-found : (g : given.Over) (c : After-followed_by-found g) → Within (begins_at next_line c.args.text.now) c.args.place g.K.ByteChunk.width 1 (g.K.ByteChunk.lanes c.followed_by-found.result)
+found : (g : given.Over) (c : After-followed_by-found g) → Within (begins_at next_line c.args.text.now) c.args.place g.K.ByteChunk.SIZE 1 (g.K.ByteChunk.lanes c.followed_by-found.result)
 found g c = pairs_within c.requires 194 133 _ _ (omega arith) (omega arith) c.cmp_eq_byte-first.ensures c.followed_by-found.ensures
 
 pub returns-then-is_zero : goal.returns-then-is_zero
@@ -23,8 +23,8 @@ inc_nth_from_end_lex_byte-requires g c =
 
 pub returns-then-pair_at : goal.returns-then-pair_at
 returns-then-pair_at g c =
-    nth_behind (found g (goal.at.returns-then-pair_at g c).After-followed_by-found) 0 c.size.result _ c.size.ensures (g.met.K.ByteChunk.row c.followed_by-found.result) (omega arith) (omega (arith, g.met.K.ByteChunk.wide))
+    nth_behind (found g (goal.at.returns-then-pair_at g c).After-followed_by-found) 0 c.SIZE.result _ c.SIZE.ensures (g.met.K.ByteChunk.row c.followed_by-found.result) (omega arith) (omega (arith, g.met.K.ByteChunk.wide))
     (sym c.if-pair_at.ensures) (λ i l k q. absurd (q (omega arith))) c.inc_nth_from_end_lex_byte.ensures
 
 pub returns : goal.returns
-returns g c = last_none (found g (goal.at.returns g c).After-followed_by-found) c.size.result c.size.ensures (sym c.if-pair_at.ensures)
+returns g c = last_none (found g (goal.at.returns g c).After-followed_by-found) c.SIZE.result c.SIZE.ensures (sym c.if-pair_at.ensures)

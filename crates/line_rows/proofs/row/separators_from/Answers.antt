@@ -21,7 +21,7 @@ apart : (t : List ℕ) (p q : ℕ) → q ≡ suc p → some_begins separators t 
 apart t p q e h = ap (some_begins separators t) e ∙ no_first t (suc p) (second (get_or t p 0) (get_or t (suc p) 0) (get_or t (suc (suc p)) 0) h)
 
 -- but for the last two lanes, what is found is right
-found : (g : given.Over) (c : After-separators_within-found g) → Within (some_begins separators c.args.text.now) c.args.place g.K.ByteChunk.width 2 (g.K.ByteChunk.lanes c.separators_within-found.result)
+found : (g : given.Over) (c : After-separators_within-found g) → Within (some_begins separators c.args.text.now) c.args.place g.K.ByteChunk.SIZE 2 (g.K.ByteChunk.lanes c.separators_within-found.result)
 found g c = within c.requires separators_reach _ c.separators_within-found.ensures
 
 pub returns-then-is_zero : goal.returns-then-is_zero
@@ -39,8 +39,8 @@ inc_nth_from_end_lex_byte-requires g c =
 pub returns-then-separator_at : goal.returns-then-separator_at
 returns-then-separator_at g c =
     let here = sym c.if-separator_at.ensures in
-    nth_behind (found g (goal.at.returns-then-separator_at g c).After-separators_within-found) 1 c.size.result _ c.size.ensures (g.met.K.ByteChunk.row c.separators_within-found.result) (omega arith) (omega (arith, g.met.K.ByteChunk.wide))
-    here (λ i l k q. apart c.args.text.now (c.args.place + c.size.result - 2) (c.args.place + i) (omega (arith, c.size.ensures, g.met.K.ByteChunk.wide)) here) c.inc_nth_from_end_lex_byte.ensures
+    nth_behind (found g (goal.at.returns-then-separator_at g c).After-separators_within-found) 1 c.SIZE.result _ c.SIZE.ensures (g.met.K.ByteChunk.row c.separators_within-found.result) (omega arith) (omega (arith, g.met.K.ByteChunk.wide))
+    here (λ i l k q. apart c.args.text.now (c.args.place + c.SIZE.result - 2) (c.args.place + i) (omega (arith, c.SIZE.ensures, g.met.K.ByteChunk.wide)) here) c.inc_nth_from_end_lex_byte.ensures
 
 pub inc_nth_from_end_lex_byte-requires-then-separator_at-2 : goal.inc_nth_from_end_lex_byte-requires-then-separator_at-2
 inc_nth_from_end_lex_byte-requires-then-separator_at-2 g c =
@@ -48,9 +48,9 @@ inc_nth_from_end_lex_byte-requires-then-separator_at-2 g c =
 
 pub returns-then-separator_at-2 : goal.returns-then-separator_at-2
 returns-then-separator_at-2 g c =
-    nth_behind (found g (goal.at.returns-then-separator_at-2 g c).After-separators_within-found) 0 c.size.result _ c.size.ensures (g.met.K.ByteChunk.row c.separators_within-found.result) (omega arith) (omega (arith, g.met.K.ByteChunk.wide))
+    nth_behind (found g (goal.at.returns-then-separator_at-2 g c).After-separators_within-found) 0 c.SIZE.result _ c.SIZE.ensures (g.met.K.ByteChunk.row c.separators_within-found.result) (omega arith) (omega (arith, g.met.K.ByteChunk.wide))
     (sym c.if-separator_at-2.ensures)
-    (λ i l k q. let n : c.args.place + i ≡ c.args.place + c.size.result - 2 = omega (arith, c.size.ensures) in ap (some_begins separators c.args.text.now) n ∙ sym c.if-separator_at.ensures)
+    (λ i l k q. let n : c.args.place + i ≡ c.args.place + c.SIZE.result - 2 = omega (arith, c.SIZE.ensures) in ap (some_begins separators c.args.text.now) n ∙ sym c.if-separator_at.ensures)
     c.inc_nth_from_end_lex_byte-then-separator_at-2.ensures
 
 pub returns : goal.returns
@@ -58,6 +58,6 @@ returns g c =
     none_behind (found g (goal.at.returns g c).After-separators_within-found)
     (λ i l k.
     ⊎_elim
-    (λ (q : i ≡ g.K.ByteChunk.width - 1). let n : c.args.place + i ≡ c.args.place + c.size.result - 1 = omega (arith, c.size.ensures) in ap (some_begins separators c.args.text.now) n ∙ sym c.if-separator_at-2.ensures)
-    (λ (q : i ≢ g.K.ByteChunk.width - 1). let n : c.args.place + i ≡ c.args.place + c.size.result - 2 = omega (arith, c.size.ensures) in ap (some_begins separators c.args.text.now) n ∙ sym c.if-separator_at.ensures)
-    (cases_eq i (g.K.ByteChunk.width - 1)))
+    (λ (q : i ≡ g.K.ByteChunk.SIZE - 1). let n : c.args.place + i ≡ c.args.place + c.SIZE.result - 1 = omega (arith, c.SIZE.ensures) in ap (some_begins separators c.args.text.now) n ∙ sym c.if-separator_at-2.ensures)
+    (λ (q : i ≢ g.K.ByteChunk.SIZE - 1). let n : c.args.place + i ≡ c.args.place + c.SIZE.result - 2 = omega (arith, c.SIZE.ensures) in ap (some_begins separators c.args.text.now) n ∙ sym c.if-separator_at.ensures)
+    (cases_eq i (g.K.ByteChunk.SIZE - 1)))

@@ -8,7 +8,7 @@ use Rattle.line_rows.proofs.row.without_crlf.Goals as goal
 use Rattle.line_rows.proofs.row.without_crlf.Goals.{After-followed_by-found}
 
 -- but for the last lane, what is found is right
-found : (g : given.Over) (c : After-followed_by-found g) → Within (begins_at cr_lf c.args.text.now) c.args.place g.K.ByteChunk.width 1 (g.K.ByteChunk.lanes c.followed_by-found.result)
+found : (g : given.Over) (c : After-followed_by-found g) → Within (begins_at cr_lf c.args.text.now) c.args.place g.K.ByteChunk.SIZE 1 (g.K.ByteChunk.lanes c.followed_by-found.result)
 found g c = pairs_within c.requires.0 13 10 _ _ (omega arith) (omega arith) c.cmp_eq_byte-first.ensures c.followed_by-found.ensures
 
 pub returns-then-is_zero : goal.returns-then-is_zero
@@ -25,7 +25,7 @@ pub dec_last_lex_byte-requires : goal.dec_last_lex_byte-requires
 dec_last_lex_byte-requires g c =
     let met = g.met.K.ByteChunk in
     let w = met.wide in
-    let e : c.args.place + (g.K.ByteChunk.width - 1) ≡ c.args.place + c.size.result - 1 = omega (arith, c.size.ensures) in
+    let e : c.args.place + (g.K.ByteChunk.SIZE - 1) ≡ c.args.place + c.SIZE.result - 1 = omega (arith, c.SIZE.ensures) in
     less_some (found g (goal.at.dec_last_lex_byte-requires g c).After-followed_by-found) _ (met.row c.args.counts) (met.row c.followed_by-found.result) _ c.sub-left.ensures
     (omega arith) (ap (begins_at cr_lf c.args.text.now) e ∙ sym c.if-pair_at.ensures) c.requires.1
 
@@ -33,7 +33,7 @@ pub returns-then-pair_at : goal.returns-then-pair_at
 returns-then-pair_at g c =
     let met = g.met.K.ByteChunk in
     let w = met.wide in
-    let e : c.args.place + (g.K.ByteChunk.width - 1) ≡ c.args.place + c.size.result - 1 = omega (arith, c.size.ensures) in
+    let e : c.args.place + (g.K.ByteChunk.SIZE - 1) ≡ c.args.place + c.SIZE.result - 1 = omega (arith, c.SIZE.ensures) in
     less_one (found g (goal.at.returns-then-pair_at g c).After-followed_by-found) _ (met.row c.args.counts) (met.row c.followed_by-found.result) _ c.sub-left.ensures
     (omega arith) (ap (begins_at cr_lf c.args.text.now) e ∙ sym c.if-pair_at.ensures) (met.row c.sub-left.result) _ c.dec_last_lex_byte.ensures
 
@@ -42,4 +42,4 @@ returns g c =
     let met = g.met.K.ByteChunk in
     let h = found g (goal.at.returns g c).After-followed_by-found in
     less_none h _ (met.row c.args.counts) (met.row c.followed_by-found.result) _ c.sub-left.ensures
-    (last_none h c.size.result c.size.ensures (sym c.if-pair_at.ensures))
+    (last_none h c.SIZE.result c.SIZE.ensures (sym c.if-pair_at.ensures))

@@ -2,7 +2,7 @@ use Rattle.measures.proofs.Flags.{leads_fit, leads_row}
 use Rattle.measures.proofs.chars.CharsScan.flags.Goals as goal
 
 pub sub-requires : goal.sub-requires
-sub-requires g c = simp (c.splat-2.ensures, c.cmp_eq_byte-trailing.ensures) (leads_fit g.K.ByteChunk.width 128 (g.K.ByteChunk.lanes c.bitand-tops.result))
+sub-requires g c = simp (c.splat-2.ensures, c.cmp_eq_byte-trailing.ensures) (leads_fit g.K.ByteChunk.SIZE 128 (g.K.ByteChunk.lanes c.bitand-tops.result))
 
 pub returns : goal.returns
 returns g c =
