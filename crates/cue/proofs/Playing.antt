@@ -1,10 +1,10 @@
 -- What one record more adds to a transcript, and that a transcript is the only one. Assumes nothing.
 use Rattle.std.proofs.Common.{◌≡◌, ℕ, ◌+◌, ◌<◌, ◌≤◌, Bool, true, false, cond, eqb, leb, List, [], ◌++◌, length, get_or, Some, None, Ok, Err, Option, Result, sym, refl, ap, ◌∙◌, subst, append_assoc, append-nil, arith}
 use Rattle.std.proofs.lemmas.Bool.{leb-true, le-ltb}
-use Rattle.faults.specs.declared.cue.Fault.{Fault}
+use Rattle.faults.specs.Layers.{CueFault as Fault}
 use Rattle.faults.specs.declared.cue.Cause.TheVariants.{Check, Cut}
-use Rattle.faults.specs.declared.check.Fault as check
-use Rattle.faults.specs.declared.count.Fault as count
+use Rattle.faults.specs.Layers.{CheckFault}
+use Rattle.faults.specs.Layers.{CountFault}
 use Rattle.utf8.specs.FirstFault.{first_fault}
 use Rattle.cue.specs.declared.record.Cue.{Cue}
 use Rattle.cue.specs.declared.record.Record.{Record}
@@ -113,11 +113,11 @@ module _ (text cues : List ℕ) where
         only_prints out (plays e (subst (Plays text cues 0 0) (sym is) (subst (λ (t : List ℕ). Plays t cues 0 0 (l.0 ++ refused_line f)) same l.2)))
 
 -- a text that is none is refused if its size is not
-pub not_text : (text cues : List ℕ) (f : check.Fault) → length text ≤ 16384 → first_fault text ≡ Some f → not_admitted text cues ≡ Some (record { place = f.place; cause = Check f })
+pub not_text : (text cues : List ℕ) (f : CheckFault) → length text ≤ 16384 → first_fault text ≡ Some f → not_admitted text cues ≡ Some (record { place = f.place; cause = Check f })
 not_text text cues f h e =
     ap (λ (b : Bool). or_else (cond b (Some (too_large 16384)) None) (or_else (no_text (first_fault text)) (larger 4096 cues))) (le-ltb 16384 (length text) h)
-    ∙ ap (λ (o : Option check.Fault). or_else (no_text o) (larger 4096 cues)) e
+    ∙ ap (λ (o : Option CheckFault). or_else (no_text o) (larger 4096 cues)) e
 
 -- an answer is the one that was promised
-pub same_answer : {a b : ℕ} → ◌≡◌ {A = Result ℕ count.Fault} (Ok a) (Ok b) → a ≡ b
+pub same_answer : {a b : ℕ} → ◌≡◌ {A = Result ℕ CountFault} (Ok a) (Ok b) → a ≡ b
 same_answer e = cc

@@ -1,9 +1,9 @@
 -- What the program prints of a text and a cue file. Assumes nothing.
 use Rattle.std.specs.Prelude.{◌≡◌, ℕ, ◌+◌, cond, List, [], ◌++◌, length, Some, None, Ok, Err, codes, decimal, Option, nat_lt}
 use Rattle.faults.specs.Numbers.{cue_refusal}
-use Rattle.faults.specs.declared.check.Fault as check
+use Rattle.faults.specs.Layers.{CheckFault}
 use Rattle.faults.specs.declared.cue.Cause.TheVariants.{Check, TooLarge}
-use Rattle.faults.specs.declared.cue.Fault.{Fault}
+use Rattle.faults.specs.Layers.{CueFault as Fault}
 use Rattle.utf8.specs.FirstFault.{first_fault}
 use Rattle.cue.specs.declared.record.Cue.{Cue}
 use Rattle.cue.specs.declared.record.Record.{Record}
@@ -26,7 +26,7 @@ abbrev pub larger : ℕ → List ℕ → Option Fault
 larger limit bs = cond (nat_lt limit (length bs)) (Some (too_large limit)) None
 
 -- the fault of a text that is none
-abbrev pub no_text : Option check.Fault → Option Fault
+abbrev pub no_text : Option CheckFault → Option Fault
 no_text None = None
 no_text (Some f) = Some (record { place = f.place; cause = Check f })
 

@@ -1,7 +1,7 @@
 -- The records of a cue file. Assumes nothing.
 use Rattle.std.specs.Prelude.{ℕ, ◌+◌, ◌*◌, cond, List, length, Some, None, Ok, Err, Option, Result, ◌==◌, nat_le, slice_index}
 use Rattle.faults.specs.declared.cue.Cause.TheVariants.{NoKind, Cut}
-use Rattle.faults.specs.declared.cue.Fault.{Fault}
+use Rattle.faults.specs.Layers.{CueFault as Fault}
 use Rattle.cue.specs.declared.record.Cue.{Cue}
 use Rattle.cue.specs.declared.record.Cue.TheVariants.{Chars, Utf16, Lines, LinesCrlf, LinesLf, Column}
 use Rattle.cue.specs.declared.record.Record.{Record}

@@ -1,6 +1,6 @@
 -- What the parts of a transcript answer. Assumes nothing.
 use Rattle.std.specs.Prelude.{◌≡◌, ℕ, List, ◌++◌, Some, None, Ok, Err, Result}
-use Rattle.faults.specs.declared.cue.Fault.{Fault}
+use Rattle.faults.specs.Layers.{CueFault as Fault}
 use Rattle.cue.specs.declared.stop.Stop.{Stop}
 use Rattle.cue.specs.declared.stop.Stop.TheVariants.{NoMemory, Refused}
 use Rattle.cue.specs.Prints.{refused_line, not_admitted, Plays}

@@ -2,6 +2,7 @@
 ghost use Rattle.std.specs.Prelude.{◌≡◌};
 ghost use Rattle.faults.specs.Numbers.{check_refusal};
 
+use crate::fault::{self, Reason};
 use crate::refusal::{Layer, Refusal};
 
 #[derive(Clone, Copy, Debug, PartialEq, Eq)]
@@ -14,16 +15,12 @@ pub enum Cause {
     NoFollower,
 }
 
-#[derive(Clone, Copy, Debug, PartialEq, Eq)]
-pub struct Fault {
-    pub place: usize,
-    pub cause: Cause,
-}
+pub type Fault = fault::Fault<Cause>;
 
-impl Cause {
-    pub fn refusal(self) -> Refusal
-        ensures { result ≡ check_refusal self }
-    {
+impl Reason for Cause {
+    ghost refusal = { check_refusal };
+
+    fn refusal(self) -> Refusal {
         let number = match self {
             Cause::NoFirst => 1,
             Cause::Ends => 2,

@@ -4,6 +4,7 @@ ghost use Rattle.faults.specs.Numbers.{count_refusal};
 ghost use Rattle.faults.specs.declared.count.Cause.TheVariants.{Check};
 
 use crate::check;
+use crate::fault::{self, Reason};
 use crate::refusal::{Layer, Refusal};
 
 #[derive(Clone, Copy, Debug, PartialEq, Eq)]
@@ -13,18 +14,14 @@ pub enum Cause {
     Head,
 }
 
-#[derive(Clone, Copy, Debug, PartialEq, Eq)]
-pub struct Fault {
-    pub place: usize,
-    pub cause: Cause,
-}
+pub type Fault = fault::Fault<Cause>;
 
-impl Cause {
-    pub fn refusal(self) -> Refusal
-        ensures { result ≡ count_refusal self }
-    {
+impl Reason for Cause {
+    ghost refusal = { count_refusal };
+
+    fn refusal(self) -> Refusal {
         match self {
-            Cause::Check(fault) => fault.cause.refusal(),
+            Cause::Check(fault) => fault.refusal(),
             Cause::Head => Refusal {
                 number: 4,
                 layer: Layer::Count,

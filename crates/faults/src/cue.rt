@@ -3,6 +3,7 @@ ghost use Rattle.std.specs.Prelude.{◌≡◌};
 ghost use Rattle.faults.specs.Numbers.{cue_refusal};
 ghost use Rattle.faults.specs.declared.cue.Cause.TheVariants.{Check, Count};
 
+use crate::fault::{self, Reason};
 use crate::refusal::{Layer, Refusal};
 use crate::{check, count};
 
@@ -18,19 +19,15 @@ pub enum Cause {
     TooLarge,
 }
 
-#[derive(Clone, Copy, Debug, PartialEq, Eq)]
-pub struct Fault {
-    pub place: usize,
-    pub cause: Cause,
-}
+pub type Fault = fault::Fault<Cause>;
 
-impl Cause {
-    pub fn refusal(self) -> Refusal
-        ensures { result ≡ cue_refusal self }
-    {
+impl Reason for Cause {
+    ghost refusal = { cue_refusal };
+
+    fn refusal(self) -> Refusal {
         let number = match self {
-            Cause::Check(fault) => return fault.cause.refusal(),
-            Cause::Count(fault) => return fault.cause.refusal(),
+            Cause::Check(fault) => return fault.refusal(),
+            Cause::Count(fault) => return fault.refusal(),
             Cause::NoKind => 10,
             Cause::Cut => 11,
             Cause::TooLarge => 12,

@@ -5,5 +5,8 @@
 pub mod check;
 pub mod count;
 pub mod cue;
+pub mod fault;
 pub mod refusal;
 pub mod script;
+
+pub use fault::{Fault, Reason};

@@ -3,6 +3,7 @@ ghost use Rattle.std.specs.Prelude.{◌≡◌};
 ghost use Rattle.faults.specs.Numbers.{script_refusal};
 ghost use Rattle.faults.specs.declared.script.Cause.TheVariants.{Check, Count};
 
+use crate::fault::{self, Reason};
 use crate::refusal::{Layer, Refusal};
 use crate::{check, count};
 
@@ -22,19 +23,15 @@ pub enum Cause {
     NothingToUndo,
 }
 
-#[derive(Clone, Copy, Debug, PartialEq, Eq)]
-pub struct Fault {
-    pub place: usize,
-    pub cause: Cause,
-}
+pub type Fault = fault::Fault<Cause>;
 
-impl Cause {
-    pub fn refusal(self) -> Refusal
-        ensures { result ≡ script_refusal self }
-    {
+impl Reason for Cause {
+    ghost refusal = { script_refusal };
+
+    fn refusal(self) -> Refusal {
         let number = match self {
-            Cause::Check(fault) => return fault.cause.refusal(),
-            Cause::Count(fault) => return fault.cause.refusal(),
+            Cause::Check(fault) => return fault.refusal(),
+            Cause::Count(fault) => return fault.refusal(),
             Cause::PastEnd => 5,
             Cause::NoCharStart => 6,
             Cause::TooLong => 7,

@@ -2,8 +2,8 @@
 // many as the head says, are counted singly, then whole chunks, then the rest singly. What it answers depends on neither.
 #![tactic(auto)]
 
+mod admit;
 pub mod chars;
-mod head;
 pub mod lines;
 pub mod lines_crlf;
 pub mod lines_lf;

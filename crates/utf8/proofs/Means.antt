@@ -4,7 +4,7 @@ use Rattle.std.proofs.Common.{◌≡◌, ℕ, ◌+◌, ◌<◌, ◌≤◌, Bool,
 use Rattle.std.proofs.lemmas.List.{take_at, drop_at, length_push}
 use Rattle.std.proofs.lemmas.Bool.{leb-true, leb-false, le-leb, and_from, and_parts, both_ways}
 use Rattle.faults.specs.declared.check.Cause.TheVariants.{NoFirst, Ends, NoFollower}
-use Rattle.faults.specs.declared.check.Fault.{Fault}
+use Rattle.faults.specs.Layers.{CheckFault as Fault}
 use Rattle.utf8.specs.Grammar.{In, Char, Text}
 use Rattle.utf8.specs.Grammar.Text.{none, more}
 use Rattle.utf8.specs.Faults.{Begun, Why, Stops}

@@ -1,6 +1,6 @@
 -- Bytes are a text just where they have no fault. Assumes nothing.
 use Rattle.std.proofs.Common.{◌≡◌, ℕ, ◌+◌, Bool, true, false, List, [], ◌∷◌, Some, None, Option, sym, refl, ap, ◌∙◌}
-use Rattle.faults.specs.declared.check.Fault.{Fault}
+use Rattle.faults.specs.Layers.{CheckFault as Fault}
 use Rattle.utf8.specs.FirstFault.{Range, due_after, first_place, why_not, fault_from, first_fault, goes_on, is_text}
 
 abbrev none : Option Fault → Bool

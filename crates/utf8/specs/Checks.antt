@@ -1,6 +1,6 @@
 -- What the check answers. Assumes nothing.
 use Rattle.std.specs.Prelude.{◌≡◌, ℕ, true, false, List, length, Some, None, Ok, Err, Result}
-use Rattle.faults.specs.declared.check.Fault.{Fault}
+use Rattle.faults.specs.Layers.{CheckFault as Fault}
 use Rattle.utf8.specs.Faults.{Stops}
 use Rattle.utf8.specs.FirstFault.{first_fault, is_text}
 use Rattle.utf8.specs.Grammar.{Text}

@@ -2,7 +2,7 @@
 use Rattle.std.specs.Prelude.{ℕ, ◌+◌, Bool, true, false, cond, ◌&&◌, List, [], ◌∷◌, Some, None, Option, nat_le}
 use Rattle.faults.specs.declared.check.Cause.{Cause}
 use Rattle.faults.specs.declared.check.Cause.TheVariants.{NoFirst, Ends, NoFollower}
-use Rattle.faults.specs.declared.check.Fault.{Fault}
+use Rattle.faults.specs.Layers.{CheckFault as Fault}
 
 -- the bytes from low to high
 pub record Range : Type 0 where

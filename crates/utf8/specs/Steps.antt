@@ -3,7 +3,7 @@ use Rattle.std.specs.Prelude.{◌≡◌, ℕ, List, [], ◌∷◌, Some, None, O
 use Rattle.utf8.specs.declared.checker.Checker.{Checker}
 use Rattle.utf8.specs.declared.checker.State.{State}
 use Rattle.utf8.specs.declared.checker.State.TheVariants.{First, One as OneDue, Two as TwoDue, Three as ThreeDue, AfterE0, AfterEd, AfterF0, AfterF4}
-use Rattle.faults.specs.declared.check.Fault.{Fault}
+use Rattle.faults.specs.Layers.{CheckFault as Fault}
 use Rattle.utf8.specs.declared.kind.ByteKind.{ByteKind}
 use Rattle.utf8.specs.declared.kind.ByteKind.TheVariants.{One, TailLow, TailMid, TailHigh, Two, ThreeE0, Three, ThreeEd, FourF0, Four, FourF4, Never}
 use Rattle.utf8.specs.FirstFault.{Range, range, tail, first_place, why_not, at_end}

@@ -3,7 +3,7 @@ ghost use Rattle.std.specs.Result.{MatchResult};
 ghost use Rattle.utf8.specs.Checks.{Passed, Refused};
 ghost use Rattle.utf8.specs.Steps.{Fresh, Stepped, Ended};
 
-use crate::kind::{ByteKind, kind_of};
+use crate::kind::ByteKind;
 use faults::check::{Cause, Fault};
 
 // What is due next.
@@ -99,7 +99,7 @@ pub fn check(bytes: &[u8]) -> Result<(), Fault>
 {
     let mut checker = Checker::new();
     for (place, byte) in bytes.iter().enumerate() {
-        checker.step(place, kind_of(*byte))?;
+        checker.step(place, ByteKind::from(*byte))?;
     }
     checker.end()
 }

@@ -1,6 +1,6 @@
 // A text that was checked: always well formed.
-ghost use Rattle.std.specs.Prelude.{◌≡◌, true, [], length};
-ghost use Rattle.utf8.specs.Checks.{Taken};
+ghost use Rattle.std.specs.Prelude.{◌≡◌, true, [], length, MatchResult};
+ghost use Rattle.utf8.specs.Checks.{Passed, Refused, Taken};
 ghost use Rattle.utf8.specs.FirstFault.{is_text};
 
 use crate::checker::check;
@@ -24,8 +24,7 @@ impl<'a> Checked<'a> {
     pub fn check(&mut self, bytes: &'a [u8]) -> Result<usize, Fault>
         ensures { Taken bytes.now self.old.bytes.now result self.new.bytes.now }
     {
-        check(bytes)?;
-        self.bytes = bytes;
+        *self = Checked::try_from(bytes)?;
         Ok(bytes.len())
     }
 
@@ -40,5 +39,16 @@ impl<'a> Checked<'a> {
         ensures sound { is_text result.now ≡ true }
     {
         self.bytes
+    }
+}
+
+impl<'a> TryFrom<&'a [u8]> for Checked<'a> {
+    type Error = Fault;
+
+    ghost try_from_gives = { λ b r. MatchResult r (λ t. Passed b.now × (t.bytes.now ≡ b.now)) (λ f. Refused b.now f) };
+
+    fn try_from(bytes: &'a [u8]) -> Result<Checked<'a>, Fault> {
+        check(bytes)?;
+        Ok(Checked { bytes })
     }
 }

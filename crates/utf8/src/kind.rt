@@ -290,8 +290,10 @@ pub fn kinds() -> &'static [ByteKind; 256]
     KINDS
 }
 
-pub fn kind_of(byte: u8) -> ByteKind
-    ensures { result ≡ kind_of byte }
-{
-    kinds()[byte as usize]
+impl From<u8> for ByteKind {
+    ghost from_gives = { λ byte kind. kind ≡ kind_of byte };
+
+    fn from(byte: u8) -> ByteKind {
+        kinds()[byte as usize]
+    }
 }

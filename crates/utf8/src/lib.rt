@@ -5,6 +5,8 @@ pub mod checker;
 pub mod examples;
 pub mod held;
 pub mod kind;
+pub mod source;
 
 pub use checker::check;
 pub use held::Checked;
+pub use source::Source;

@@ -7,11 +7,11 @@ pub returns-in_err-step : goal.returns-in_err-step
 returns-in_err-step c =
     let p = err_from_is_err_and c.from_residual.result c.from_residual.ensures.1 in
     rw (p.1, p.2)
-    (no_more c.args.bytes.now c.loop-place.place c.loop-place.checker c.loop-place.invariant (search rules) (search rules) _ c.step.new.self _ c.kind_of.ensures c.in_err-step.ensures)
+    (no_more c.args.bytes.now c.loop-place.place c.loop-place.checker c.loop-place.invariant (search rules) (search rules) _ c.step.new.self _ c.from.ensures c.in_err-step.ensures)
 
 pub loop-place-preserved : goal.loop-place-preserved
 loop-place-preserved c =
-    one_more c.args.bytes.now c.loop-place.place c.loop-place.checker c.loop-place.invariant (search rules) (search rules) _ _ c.kind_of.ensures c.in_ok-step.ensures
+    one_more c.args.bytes.now c.loop-place.place c.loop-place.checker c.loop-place.invariant (search rules) (search rules) _ _ c.from.ensures c.in_ok-step.ensures
 
 pub returns : goal.returns
 returns c = none_more c.args.bytes.now c.loop-place.place c.loop-place.checker c.loop-place.invariant (search rules) c.end.result c.end.ensures
