@@ -8,11 +8,14 @@ use Rattle.faults.specs.Layers.{CountFault}
 use Rattle.utf8.specs.FirstFault.{first_fault}
 use Rattle.cue.specs.declared.record.Cue.{Cue}
 use Rattle.cue.specs.declared.record.Record.{Record}
+use Rattle.cue.specs.declared.stop.Stop.{Stop}
+use Rattle.cue.specs.declared.stop.Stop.TheVariants.{NoMemory, Refused}
 use Rattle.cue.specs.Places.{place_of}
 use Rattle.cue.specs.Prints.{line_of, refused_line, too_large, larger, no_text, or_else, not_admitted, Plays, Prints, OnlyPrints}
 use Rattle.cue.specs.Prints.Plays.{ends, answers, refuses}
 use Rattle.cue.specs.Prints.Prints.{refused, plays}
 use Rattle.cue.specs.Records.{record_at, whole}
+use Rattle.cue.specs.Steps.{Played, Ran}
 
 -- a record goes on, and not past the file's end
 module _ (bs : List ℕ) (p : ℕ) where
@@ -97,20 +100,26 @@ module _ (text cues : List ℕ) where
   pub only_prints : (out : List ℕ) → Prints text cues out → OnlyPrints text cues out
   only_prints out h = record { is = h; only = λ other k. prints_one k h }
 
-  -- the three ways in which a transcript ends
-  pub refused_first : (f : Fault) (before out : List ℕ) → not_admitted text cues ≡ Some f → before ≡ [] → out ≡ before ++ refused_line f → OnlyPrints text cues out
-  refused_first f before out e z a = only_prints out (refused f e (a ∙ ap (λ (b : List ℕ). b ++ refused_line f) z))
+-- what a transcript has added before any record, and after all that are played
+module _ (text cues : List ℕ) where
+  pub refused_first : (f : Fault) (before : List ℕ) → not_admitted text cues ≡ Some f → Ran text cues before (Err (Refused f)) before
+  refused_first f before e = ([], sym (append-nil before), refused f e refl)
 
-  module _ (held before after : List ℕ) (e : not_admitted text cues ≡ None) (same : held ≡ text) (z : before ≡ []) where
-    pub played_all : (lines : List ℕ) × (after ≡ before ++ lines) × Plays held cues 0 0 lines → OnlyPrints text cues after
-    played_all l =
-        let is : after ≡ l.0 = l.1 ∙ ap (λ (b : List ℕ). b ++ l.0) z in
-        only_prints after (plays e (subst (Plays text cues 0 0) (sym is) (subst (λ (t : List ℕ). Plays t cues 0 0 l.0) same l.2)))
+  module _ (held before after : List ℕ) (e : not_admitted text cues ≡ None) (same : held ≡ text) where
+    pub ran : (r : Result (Unit {0}) Stop) → Played held cues before r after → Ran text cues before r after
+    ran (Ok u) l = (l.0, l.1, plays e (subst (λ (t : List ℕ). Plays t cues 0 0 l.0) same l.2))
+    ran (Err (NoMemory m)) l = tt
+    ran (Err (Refused f)) l = (l.0, l.1, plays e (subst (λ (t : List ℕ). Plays t cues 0 0 (l.0 ++ refused_line f)) same l.2))
 
-    pub played_some : (f : Fault) (out : List ℕ) → (lines : List ℕ) × (after ≡ before ++ lines) × Plays held cues 0 0 (lines ++ refused_line f) → out ≡ after ++ refused_line f → OnlyPrints text cues out
-    played_some f out l a =
-        let is : out ≡ l.0 ++ refused_line f = a ∙ ap (λ (b : List ℕ). b ++ refused_line f) (l.1 ∙ ap (λ (b : List ℕ). b ++ l.0) z) in
-        only_prints out (plays e (subst (Plays text cues 0 0) (sym is) (subst (λ (t : List ℕ). Plays t cues 0 0 (l.0 ++ refused_line f)) same l.2)))
+-- the whole is what the program prints
+module _ (text cues before after : List ℕ) (z : before ≡ []) where
+  pub all_printed : Ran text cues before (Ok tt) after → OnlyPrints text cues after
+  all_printed l = only_prints text cues after (subst (Prints text cues) (sym (l.1 ∙ ap (λ (b : List ℕ). b ++ l.0) z)) l.2)
+
+  pub refusal_printed : (f : Fault) (out : List ℕ) → Ran text cues before (Err (Refused f)) after → out ≡ after ++ refused_line f → OnlyPrints text cues out
+  refusal_printed f out l a =
+      let is : out ≡ l.0 ++ refused_line f = a ∙ ap (λ (b : List ℕ). b ++ refused_line f) (l.1 ∙ ap (λ (b : List ℕ). b ++ l.0) z) in
+      only_prints text cues out (subst (Prints text cues) (sym is) l.2)
 
 -- a text that is none is refused if its size is not
 pub not_text : (text cues : List ℕ) (f : CheckFault) → length text ≤ 16384 → first_fault text ≡ Some f → not_admitted text cues ≡ Some (record { place = f.place; cause = Check f })

@@ -1,22 +1,24 @@
 -- What the program prints of a text and a cue file. Assumes nothing.
 use Rattle.std.specs.Prelude.{◌≡◌, ℕ, ◌+◌, cond, List, [], ◌++◌, length, Some, None, Ok, Err, codes, decimal, Option, nat_lt}
 use Rattle.faults.specs.Numbers.{cue_refusal}
+use Rattle.faults.specs.Printed.{printed}
 use Rattle.faults.specs.Layers.{CheckFault}
 use Rattle.faults.specs.declared.cue.Cause.TheVariants.{Check, TooLarge}
 use Rattle.faults.specs.Layers.{CueFault as Fault}
 use Rattle.utf8.specs.FirstFault.{first_fault}
 use Rattle.cue.specs.declared.record.Cue.{Cue}
 use Rattle.cue.specs.declared.record.Record.{Record}
+use Rattle.cue.specs.Kinds.{number_of}
 use Rattle.cue.specs.Places.{place_of}
 use Rattle.cue.specs.Records.{kind_of, record_at}
 
 -- the line of the record with number n
 abbrev pub line_of : ℕ → Cue → ℕ → List ℕ
-line_of n cue place = decimal n ++ (codes " " ++ (decimal (kind_of cue) ++ (codes " " ++ (decimal place ++ codes "\n"))))
+line_of n cue place = decimal n ++ (codes " " ++ (decimal (number_of (kind_of cue)) ++ (codes " " ++ (decimal place ++ codes "\n"))))
 
 -- the line of a refusal
 abbrev pub refused_line : Fault → List ℕ
-refused_line f = codes "refused " ++ (decimal (cue_refusal f.cause).number ++ (codes " at " ++ (decimal f.place ++ codes "\n")))
+refused_line f = printed (cue_refusal f.cause) f.place ++ codes "\n"
 
 -- a file above its limit
 abbrev pub too_large : ℕ → Fault

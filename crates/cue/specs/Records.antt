@@ -2,18 +2,19 @@
 use Rattle.std.specs.Prelude.{ℕ, ◌+◌, ◌*◌, cond, List, length, Some, None, Ok, Err, Option, Result, ◌==◌, nat_le, slice_index}
 use Rattle.faults.specs.declared.cue.Cause.TheVariants.{NoKind, Cut}
 use Rattle.faults.specs.Layers.{CueFault as Fault}
+use Rattle.cue.specs.declared.kind.Kind.{Kind}
+use Rattle.cue.specs.declared.kind.Kind.TheVariants as kind
 use Rattle.cue.specs.declared.record.Cue.{Cue}
 use Rattle.cue.specs.declared.record.Cue.TheVariants.{Chars, Utf16, Lines, LinesCrlf, LinesLf, Column}
 use Rattle.cue.specs.declared.record.Record.{Record}
 
--- the kind of a cue, as its first byte has it
-abbrev pub kind_of : Cue → ℕ
-kind_of (Chars k) = 1
-kind_of (Utf16 k) = 2
-kind_of (Lines k) = 3
-kind_of (LinesCrlf k) = 4
-kind_of (LinesLf k) = 5
-kind_of (Column l c) = 6
+abbrev pub kind_of : Cue → Kind
+kind_of (Chars k) = kind.Chars
+kind_of (Utf16 k) = kind.Utf16
+kind_of (Lines k) = kind.Lines
+kind_of (LinesCrlf k) = kind.LinesCrlf
+kind_of (LinesLf k) = kind.LinesLf
+kind_of (Column l c) = kind.Column
 
 -- a number of four bytes, the lowest first
 abbrev pub number_at : List ℕ → ℕ → ℕ

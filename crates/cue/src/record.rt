@@ -1,7 +1,8 @@
 // The records of a cue file: a byte of kind, then one or two little-endian numbers of four bytes.
-ghost use Rattle.std.specs.Prelude.{◌≡◌, ◌+◌, ◌<◌, ◌≤◌, length, MatchOption};
-ghost use Rattle.cue.specs.Records.{kind_of, number_at, whole, record_at};
+ghost use Rattle.std.specs.Prelude.{◌≡◌, ◌+◌, ◌≤◌, length};
+ghost use Rattle.cue.specs.Records.{kind_of, number_at, record_at};
 
+use crate::kind::Kind;
 use faults::cue::{Cause, Fault};
 
 // What a cue names: an index of one measure, or a line of lines_crlf and a column in UTF-16 units.
@@ -23,17 +24,16 @@ pub struct Record {
 }
 
 impl Cue {
-    // The kind, as a record begins with it.
-    pub fn kind(self) -> u8
+    pub fn kind(self) -> Kind
         ensures { result ≡ kind_of self }
     {
         match self {
-            Cue::Chars(_) => 1,
-            Cue::Utf16(_) => 2,
-            Cue::Lines(_) => 3,
-            Cue::LinesCrlf(_) => 4,
-            Cue::LinesLf(_) => 5,
-            Cue::Column { line: _, column: _ } => 6,
+            Cue::Chars(_) => Kind::Chars,
+            Cue::Utf16(_) => Kind::Utf16,
+            Cue::Lines(_) => Kind::Lines,
+            Cue::LinesCrlf(_) => Kind::LinesCrlf,
+            Cue::LinesLf(_) => Kind::LinesLf,
+            Cue::Column { line: _, column: _ } => Kind::Column,
         }
     }
 }
@@ -49,18 +49,14 @@ fn number_at(bytes: &[u8], at: usize) -> u32
 pub fn record_at(bytes: &[u8], at: usize) -> Result<Option<Record>, Fault>
     ensures { result ≡ record_at bytes.now at }
 {
-    if at >= bytes.len() {
+    let Some(first) = bytes.get(at) else {
         return Ok(None);
-    }
-    let kind = bytes[at];
-    let size = match kind {
-        1..=5 => 5,
-        6 => 9,
-        _ => return Err(Fault {
-            place: at,
-            cause: Cause::NoKind,
-        }),
     };
+    let kind = match Kind::try_from(*first) {
+        Ok(kind) => kind,
+        Err(cause) => return Err(Fault { place: at, cause }),
+    };
+    let size = kind.size();
     if bytes.len() - at < size {
         return Err(Fault {
             place: at,
@@ -69,12 +65,12 @@ pub fn record_at(bytes: &[u8], at: usize) -> Result<Option<Record>, Fault>
     }
     let number = number_at(bytes, at + 1);
     let cue = match kind {
-        1 => Cue::Chars(number),
-        2 => Cue::Utf16(number),
-        3 => Cue::Lines(number),
-        4 => Cue::LinesCrlf(number),
-        5 => Cue::LinesLf(number),
-        _ => Cue::Column {
+        Kind::Chars => Cue::Chars(number),
+        Kind::Utf16 => Cue::Utf16(number),
+        Kind::Lines => Cue::Lines(number),
+        Kind::LinesCrlf => Cue::LinesCrlf(number),
+        Kind::LinesLf => Cue::LinesLf(number),
+        Kind::Column => Cue::Column {
             line: number,
             column: number_at(bytes, at + 5),
         },

@@ -1,7 +1,7 @@
 // The whole of what the program prints: a line for each record, up to the first refusal.
-ghost use Rattle.std.specs.Prelude.{◌≡◌, ◌++◌, IfOk, string_bytes, OnOk};
-ghost use Rattle.cue.specs.Prints.{line_of, refused_line, too_large, OnlyPrints};
-ghost use Rattle.cue.specs.Steps.{Admitted, Played};
+ghost use Rattle.std.specs.Prelude.{◌≡◌, ◌++◌, IfOk, None, OnOk, Some, string_bytes, MatchResult};
+ghost use Rattle.cue.specs.Prints.{line_of, not_admitted, too_large, OnlyPrints};
+ghost use Rattle.cue.specs.Steps.{Played, Ran};
 
 use crate::place::place_of;
 use crate::record::{Cue, record_at};
@@ -24,45 +24,29 @@ fn too_large(limit: usize) -> Fault
     }
 }
 
-// Holds the text, unless a file is too large or the text is none.
-fn admit<'a>(held: &mut Checked<'a>, text: &'a [u8], cues: &[u8]) -> Result<(), Fault>
-    ensures { Admitted text.now cues.now result held.new.bytes.now }
+// The text, unless a file is too large or the text is none.
+fn admit<'a>(text: &'a [u8], cues: &[u8]) -> Result<Checked<'a>, Fault>
+    ensures { MatchResult result (λ t. (not_admitted text.now cues.now ≡ None) × (t.bytes.now ≡ text.now)) (λ f. not_admitted text.now cues.now ≡ Some f) }
 {
     if text.len() > MAX_TEXT {
         return Err(too_large(MAX_TEXT));
     }
-    held.check(text)?;
+    let text = Checked::try_from(text)?;
     if cues.len() > MAX_CUES {
         return Err(too_large(MAX_CUES));
     }
-    Ok(())
+    Ok(text)
 }
 
-fn add_line(
-    out: &mut String,
-    heap: Global,
-    number: usize,
-    cue: Cue,
-    place: usize,
-) -> Result<(), AllocError>
+fn add_line(out: &mut String, number: usize, cue: Cue, place: usize) -> Result<(), AllocError>
     ensures { OnOk result (string_bytes out.new ≡ string_bytes out.old ++ line_of number cue place) }
 {
-    let kind = cue.kind();
-    let line = format!(in heap; "{number} {kind} {place}\n")?;
-    out.push_str(line.as_str())
-}
-
-fn add_refusal(out: &mut String, heap: Global, fault: Fault) -> Result<(), AllocError>
-    ensures { OnOk result (string_bytes out.new ≡ string_bytes out.old ++ refused_line fault) }
-{
-    let number = fault.cause.refusal().number;
-    let place = fault.place;
-    let line = format!(in heap; "refused {number} at {place}\n")?;
-    out.push_str(line.as_str())
+    let kind = u8::from(cue.kind());
+    writeln!(out, "{number} {kind} {place}")
 }
 
 // Adds the line of each record, up to one that is refused.
-fn play(out: &mut String, heap: Global, text: Checked<'_>, cues: &[u8]) -> Result<(), Stop>
+fn play(out: &mut String, text: Checked<'_>, cues: &[u8]) -> Result<(), Stop>
     ensures { Played text.entry.bytes.now cues.now (string_bytes out.old) result (string_bytes out.new) }
 {
     let mut at = 0;
@@ -70,10 +54,17 @@ fn play(out: &mut String, heap: Global, text: Checked<'_>, cues: &[u8]) -> Resul
     while let Some(record) = record_at(cues, at)? {
         number += 1;
         let place = place_of(text, record.cue)?;
-        add_line(out, heap, number, record.cue, place)?;
+        add_line(out, number, record.cue, place)?;
         at = record.next;
     }
     Ok(())
+}
+
+fn run(out: &mut String, text: &[u8], cues: &[u8]) -> Result<(), Stop>
+    ensures { Ran text.now cues.now (string_bytes out.old) result (string_bytes out.new) }
+{
+    let text = admit(text, cues)?;
+    play(out, text, cues)
 }
 
 // What the program prints of a text and a cue file.
@@ -81,19 +72,12 @@ pub fn transcript(heap: Global, text: &[u8], cues: &[u8]) -> Result<String, Allo
     ensures { IfOk result (λ s. OnlyPrints text.now cues.now (string_bytes s)) }
 {
     let mut out = String::new(heap);
-    let mut held = Checked::new();
-    if let Err(fault) = admit(&mut held, text, cues) {
-        add_refusal(&mut out, heap, fault)?;
-        return Ok(out);
-    }
-    let Err(stop) = play(&mut out, heap, held, cues) else {
-        return Ok(out);
-    };
-    match stop {
-        Stop::NoMemory(error) => Err(error),
-        Stop::Refused(fault) => {
-            add_refusal(&mut out, heap, fault)?;
+    match run(&mut out, text, cues) {
+        Ok(()) => Ok(out),
+        Err(Stop::Refused(fault)) => {
+            writeln!(out, "{fault}")?;
             Ok(out)
         }
+        Err(Stop::NoMemory(error)) => Err(error),
     }
 }

@@ -1,31 +1,32 @@
 // One case: a question, what it is asked of, and the answer that is expected.
-use crate::calls::{every_head, pairs_agree, refused};
-use crate::hex::bytes_of;
+use crate::ask::Ask;
+use crate::bytes::bytes_of;
 use anyhow::anyhow;
-use cells::Measure;
-use cells::walk::{count, index, start};
+use chunk::ByteChunk;
 use cue::transcript::transcript;
-use faults::check::Fault;
+use faults::{Fault, Reason};
 use lanes::Lanes16;
-use measures::chars::Chars;
-use measures::lines::Lines;
-use measures::lines_crlf::LinesCrlf;
-use measures::lines_lf::LinesLf;
-use measures::utf16::Utf16;
-use std::alloc::Global;
+use std::alloc::{AllocError, Global};
 use str_indices::lines::count_breaks_up_to;
+use str_indices::{chars, utf16};
 use utf8::{Checked, check};
 use word::Word;
 
-// What a check answered: `ok`, or number and place as `1@0`.
-fn told(heap: Global, answer: Result<(), Fault>) -> anyhow::Result<String> {
-    match answer {
-        Ok(()) => Ok(String::from_str(heap, "ok")?),
-        Err(fault) => {
-            let number = fault.cause.refusal().number;
-            let place = fault.place;
-            Ok(format!(in heap; "{number}@{place}")?)
-        }
+// What a call answered: `ok`, or number and place as `1@0`.
+fn told<C: Reason>(heap: Global, fault: Option<Fault<C>>) -> Result<String, AllocError> {
+    let Some(fault) = fault else {
+        return String::from_str(heap, "ok");
+    };
+    let number = fault.refusal().number;
+    let place = fault.place;
+    format!(in heap; "{number}@{place}")
+}
+
+// The bytes as a text.
+fn text_of(bytes: &[u8]) -> anyhow::Result<Checked<'_>> {
+    match Checked::try_from(bytes) {
+        Ok(text) => Ok(text),
+        Err(_) => Err(anyhow!("no text")),
     }
 }
 
@@ -35,44 +36,12 @@ fn held_good(good: &[u8], bad: &[u8]) -> bool {
     held.check(good).is_ok() && held.check(bad).is_err() && held.bytes() == good
 }
 
-// The answer of the plain walks, if sums by both chunk kinds agree with it where it is an index.
-fn asked_of<M: Measure>(
-    measure: &M,
-    question: &str,
-    text: Checked<'_>,
-    at: usize,
-) -> anyhow::Result<usize> {
-    match question {
-        "count" => Ok(count(measure, text)),
-        "index" => {
-            let answer = index(measure, text, at);
-            for head in 0..20 {
-                if measure.sum::<Word>(text, 0, at, head) != answer
-                    || measure.sum::<Lanes16>(text, 0, at, head) != answer
-                {
-                    return Err(anyhow!("a sum differs"));
-                }
-            }
-            Ok(answer)
-        }
-        _ => Ok(start(measure, text, at)),
-    }
-}
-
-// The answer of the measure with this name, on bytes that are a text.
-fn answer(question: &str, name: &str, bytes: &[u8], at: usize) -> anyhow::Result<usize> {
-    let mut text = Checked::new();
-    if text.check(bytes).is_err() {
-        return Err(anyhow!("no text"));
-    }
-    match name {
-        "chars" => asked_of(&Chars, question, text, at),
-        "utf16" => asked_of(&Utf16, question, text, at),
-        "lines" => asked_of(&Lines, question, text, at),
-        "lines_crlf" => asked_of(&LinesCrlf, question, text, at),
-        "lines_lf" => asked_of(&LinesLf, question, text, at),
-        _ => Err(anyhow!("no such measure")),
-    }
+// Whether there are so many surrogate pairs, at every head, of a checked text and of its bytes.
+fn pairs_agree<K: ByteChunk>(text: Checked<'_>, expected: usize) -> bool {
+    (0..K::SIZE).all(|head| {
+        utf16::count_surrogates::<K, _>(text, head) == Ok(expected)
+            && utf16::count_surrogates::<K, _>(text.bytes(), head) == Ok(expected)
+    })
 }
 
 // What the program prints, with `;` for each line's end and `_` for each space, and `-` for nothing.
@@ -95,62 +64,59 @@ fn printed(heap: Global, text: &[u8], cues: &[u8]) -> anyhow::Result<String> {
 // Whether the answer is the one that is expected.
 pub fn agrees(heap: Global, line: &str) -> anyhow::Result<bool> {
     let words: Vec<&str> = line.split_whitespace().collect(heap)?;
-    let question = words.get(0).copied().unwrap_or("");
-    let first = words.get(1).copied().unwrap_or("-");
-    let second = words.get(2).copied().unwrap_or("-");
-    let third = words.get(3).copied().unwrap_or("0");
-    let fourth = words.get(4).copied().unwrap_or("0");
-    match question {
-        "check" => {
-            let bytes = bytes_of(heap, first)?;
-            Ok(told(heap, check(bytes.as_slice()))?.as_str() == second)
+    match *words.as_slice() {
+        ["check", bytes, expected] => {
+            let bytes = bytes_of(heap, bytes)?;
+            Ok(told(heap, check(bytes.as_slice()).err())?.as_str() == expected)
         }
-        "held" => {
-            let good = bytes_of(heap, first)?;
-            let bad = bytes_of(heap, second)?;
+        ["held", good, bad] => {
+            let good = bytes_of(heap, good)?;
+            let bad = bytes_of(heap, bad)?;
             Ok(held_good(good.as_slice(), bad.as_slice()))
         }
-        "cues" => {
-            let text = bytes_of(heap, first)?;
-            let cues = bytes_of(heap, second)?;
-            Ok(printed(heap, text.as_slice(), cues.as_slice())?.as_str() == third)
+        ["cues", text, cues, expected] => {
+            let text = bytes_of(heap, text)?;
+            let cues = bytes_of(heap, cues)?;
+            Ok(printed(heap, text.as_slice(), cues.as_slice())?.as_str() == expected)
         }
-        "count" | "index" | "start" => {
-            let bytes = bytes_of(heap, second)?;
-            let at = third.parse::<usize>()?;
-            let expected = fourth.parse::<usize>()?;
-            Ok(
-                answer(question, first, bytes.as_slice(), at)? == expected
-                    && every_head::<Word>(question, first, bytes.as_slice(), at, expected)
-                    && every_head::<Lanes16>(question, first, bytes.as_slice(), at, expected),
-            )
+        ["pairs", bytes, expected] => {
+            let bytes = bytes_of(heap, bytes)?;
+            let text = text_of(bytes.as_slice())?;
+            let expected = expected.parse::<usize>()?;
+            Ok(pairs_agree::<Word>(text, expected) && pairs_agree::<Lanes16>(text, expected))
         }
-        "pairs" => {
-            let bytes = bytes_of(heap, first)?;
-            let expected = second.parse::<usize>()?;
-            Ok(
-                pairs_agree::<Word>(bytes.as_slice(), expected)
-                    && pairs_agree::<Lanes16>(bytes.as_slice(), expected),
-            )
-        }
-        "up_to" => {
-            let bytes = bytes_of(heap, first)?;
+        ["up_to", bytes, max_bytes, max_breaks, expected] => {
+            let bytes = bytes_of(heap, bytes)?;
             let (breaks, passed) = count_breaks_up_to(
                 bytes.as_slice(),
-                second.parse::<usize>()?,
-                third.parse::<usize>()?,
+                max_bytes.parse::<usize>()?,
+                max_breaks.parse::<usize>()?,
             );
-            Ok(format!(in heap; "{breaks},{passed}")?.as_str() == fourth)
+            Ok(format!(in heap; "{breaks},{passed}")?.as_str() == expected)
         }
-        "word" => {
-            let bytes = bytes_of(heap, second)?;
-            Ok(refused::<Word>(heap, bytes.as_slice(), first.parse::<usize>()?)?.as_str() == third)
+        ["word", head, bytes, expected] => {
+            let bytes = bytes_of(heap, bytes)?;
+            let answer = chars::count::<Word, _>(bytes.as_slice(), head.parse::<usize>()?);
+            Ok(told(heap, answer.err())?.as_str() == expected)
         }
-        "array" => {
-            let bytes = bytes_of(heap, second)?;
+        ["array", head, bytes, expected] => {
+            let bytes = bytes_of(heap, bytes)?;
+            let answer = chars::count::<Lanes16, _>(bytes.as_slice(), head.parse::<usize>()?);
+            Ok(told(heap, answer.err())?.as_str() == expected)
+        }
+        [question, module, bytes, at, expected] => {
+            let ask = Ask {
+                question: question.parse()?,
+                module: module.parse()?,
+                at: at.parse::<usize>()?,
+            };
+            let bytes = bytes_of(heap, bytes)?;
+            let text = text_of(bytes.as_slice())?;
+            let expected = expected.parse::<usize>()?;
             Ok(
-                refused::<Lanes16>(heap, bytes.as_slice(), first.parse::<usize>()?)?.as_str()
-                    == third,
+                ask.by_bytes(text)? == expected
+                    && ask.every_head::<Word>(text, expected)
+                    && ask.every_head::<Lanes16>(text, expected),
             )
         }
         _ => Err(anyhow!("no such question")),

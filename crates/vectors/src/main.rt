@@ -1,9 +1,9 @@
 // Replays a list of cases whose answers come from outside, and prints how many agree.
 #![tactic(auto)]
 
-mod calls;
+mod ask;
+mod bytes;
 mod case;
-mod hex;
 
 use case::agrees;
 use std::fs;

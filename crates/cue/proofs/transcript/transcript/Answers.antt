@@ -1,19 +1,13 @@
 use Rattle.std.proofs.Common.{Err, string_bytes, subst, rules}
 use Rattle.cue.specs.declared.stop.Stop.{Stop}
-use Rattle.cue.specs.Steps.{Played}
-use Rattle.cue.proofs.Playing.{refused_first, played_all, played_some}
+use Rattle.cue.specs.Steps.{Ran}
+use Rattle.cue.proofs.Playing.{all_printed, refusal_printed}
 use Rattle.cue.proofs.transcript.transcript.Goals as goal
 
-pub returns-in-Err : goal.returns-in-Err
-returns-in-Err c =
-    refused_first c.args.text.now c.args.cues.now c.in-Err.fault (string_bytes c.new-out.result) _ c.in-Err.ensures (search rules) c.in_ok-add_refusal.ensures
+pub returns-in-Ok : goal.returns-in-Ok
+returns-in-Ok c = all_printed c.args.text.now c.args.cues.now (string_bytes c.new-out.result) _ (search rules) c.in-Ok.ensures
 
-pub returns-in_default-play : goal.returns-in_default-play
-returns-in_default-play c =
-    played_all c.args.text.now c.args.cues.now c.admit.new.held.bytes.now (string_bytes c.new-out.result) _ c.in_default.ensures.0 c.in_default.ensures.1 (search rules) c.in_default-play.ensures
-
-pub returns-in_ok-add_refusal-in-Refused : goal.returns-in_ok-add_refusal-in-Refused
-returns-in_ok-add_refusal-in-Refused c =
-    played_some c.args.text.now c.args.cues.now c.admit.new.held.bytes.now (string_bytes c.new-out.result) (string_bytes c.play.new.out) c.in_default.ensures.0 c.in_default.ensures.1 (search rules)
-    c.in-Refused.fault _ (subst (λ (s : Stop). Played c.admit.new.held.bytes.now c.args.cues.now (string_bytes c.new-out.result) (Err s) (string_bytes c.play.new.out)) c.in-Refused.is c.in-Err-play.ensures)
-    c.in_ok-add_refusal-in-Refused.ensures
+pub returns-in_ok-writeln-in-Err-Refused : goal.returns-in_ok-writeln-in-Err-Refused
+returns-in_ok-writeln-in-Err-Refused c =
+    let ran = subst (λ (s : Stop). Ran c.args.text.now c.args.cues.now (string_bytes c.new-out.result) (Err s) (string_bytes c.run.new.out)) c.in-Err-Refused.field-0-is c.in-Err-Refused.ensures in
+    refusal_printed c.args.text.now c.args.cues.now (string_bytes c.new-out.result) (string_bytes c.run.new.out) (search rules) c.in-Err-Refused.fault _ ran c.in_ok-writeln-in-Err-Refused.ensures.bytes
