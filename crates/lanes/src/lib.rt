@@ -1,12 +1,13 @@
 // Sixteen bytes in an array, worked on one by one.
 #![tactic(auto)]
 
-ghost use Rattle.std.specs.Prelude.{◌≡◌, true, get_or};
+ghost use Rattle.std.specs.Prelude.{◌≡◌, ℕ, ◌<◌, true, length, get_or, slice_index};
 ghost use Rattle.chunk.specs.Rows.{is_row};
 ghost use Rattle.chunk.proofs.Rows.{row_of};
 ghost use Rattle.std.proofs.Common.{rules};
 
 use chunk::ByteChunk;
+use std::array;
 
 const SIZE: usize = 16;
 
@@ -19,11 +20,30 @@ pub struct Lanes16 {
 }
 
 impl Lanes16 {
+    // The row of sixteen bytes.
+    fn of(row: &[u8]) -> Lanes16
+        requires { length row.now ≡ 16 }
+        ensures { result.bytes ≡ row.now }
+    {
+        let mut bytes = [0; SIZE];
+        bytes.copy_from_slice(row);
+        Lanes16 { bytes }
+    }
+
+    // The row whose lanes a function gives by their places.
+    fn from_fn<F: Fn(usize) -> u8>(f: F) -> Lanes16
+        requires { (i : ℕ) → i < 16 → F.pre f i }
+        ensures { (i : ℕ) → i < 16 → F.post f i (slice_index result.bytes i) }
+    {
+        let bytes: [u8; SIZE] = array::from_fn(f);
+        Lanes16::of(&bytes)
+    }
+
     // The lane at a place, 0 past the last.
     pub fn lane(self, place: usize) -> u8
         ensures { result ≡ get_or self.bytes place 0 }
     {
-        if place < SIZE { self.bytes[place] } else { 0 }
+        self.bytes.get(place).copied().unwrap_or(0)
     }
 }
 
@@ -47,9 +67,7 @@ impl ByteChunk for Lanes16 {
     ghost row = { λ x. row_of x.row };
 
     fn load(text: &[u8], place: usize) -> Lanes16 {
-        let mut bytes = [0; SIZE];
-        bytes.copy_from_slice(&text[place..place + SIZE]);
-        Lanes16 { bytes }
+        Lanes16::of(&text[place..place + SIZE])
     }
 
     fn zero() -> Lanes16 {
@@ -61,76 +79,43 @@ impl ByteChunk for Lanes16 {
     }
 
     fn is_zero(self) -> bool {
-        let mut zero = true;
-        for i in 0..SIZE {
-            zero = zero & (self.bytes[i] == 0);
-        }
-        zero
+        self.bytes == [0; SIZE]
     }
 
     fn shift_back_lex(self, n: usize) -> Lanes16 {
-        let mut bytes = [0; SIZE];
-        for i in 0..SIZE {
-            bytes[i] = self.lane(i + n);
-        }
-        Lanes16 { bytes }
+        Lanes16::from_fn(|i| self.lane(i + n))
     }
 
     fn shift_across(self, other: Lanes16) -> Lanes16 {
-        // Lane 0 keeps the last lane of self.
-        let mut bytes = [self.bytes[LAST]; SIZE];
-        for i in 1..SIZE {
-            bytes[i] = other.bytes[i - 1];
-        }
-        Lanes16 { bytes }
+        Lanes16::from_fn(|i| if i == 0 {
+            self.bytes[LAST]
+        } else {
+            other.bytes[i - 1]
+        })
     }
 
     fn shr(self, n: usize) -> Lanes16 {
-        let mut bytes = [0; SIZE];
-        for i in 0..SIZE {
-            bytes[i] = self.bytes[i] >> n;
-        }
-        Lanes16 { bytes }
+        Lanes16::from_fn(|i| self.bytes[i] >> n)
     }
 
     fn cmp_eq_byte(self, byte: u8) -> Lanes16 {
-        let mut bytes = [0; SIZE];
-        for i in 0..SIZE {
-            bytes[i] = (self.bytes[i] == byte) as u8;
-        }
-        Lanes16 { bytes }
+        Lanes16::from_fn(|i| (self.bytes[i] == byte) as u8)
     }
 
     fn bytes_between_127(self, a: u8, b: u8) -> Lanes16 {
-        let mut bytes = [0; SIZE];
-        for i in 0..SIZE {
-            bytes[i] = ((a < self.bytes[i]) & (self.bytes[i] < b)) as u8;
-        }
-        Lanes16 { bytes }
+        Lanes16::from_fn(|i| ((a < self.bytes[i]) & (self.bytes[i] < b)) as u8)
     }
 
     fn bitand(self, other: Lanes16) -> Lanes16 {
-        let mut bytes = [0; SIZE];
-        for i in 0..SIZE {
-            bytes[i] = self.bytes[i] & other.bytes[i];
-        }
-        Lanes16 { bytes }
+        Lanes16::from_fn(|i| self.bytes[i] & other.bytes[i])
     }
 
     fn add(self, other: Lanes16) -> Lanes16 {
-        let mut bytes = [0; SIZE];
-        for i in 0..SIZE {
-            bytes[i] = self.bytes[i] + other.bytes[i];
-        }
-        Lanes16 { bytes }
+        Lanes16::from_fn(|i| self.bytes[i] + other.bytes[i])
     }
 
     fn sub(self, other: Lanes16) -> Lanes16 {
-        let mut bytes = [0; SIZE];
-        for i in 0..SIZE {
-            bytes[i] = self.bytes[i] - other.bytes[i];
-        }
-        Lanes16 { bytes }
+        Lanes16::from_fn(|i| self.bytes[i] - other.bytes[i])
     }
 
     fn inc_nth_from_end_lex_byte(self, n: usize) -> Lanes16 {
@@ -146,10 +131,6 @@ impl ByteChunk for Lanes16 {
     }
 
     fn sum_bytes(self) -> usize {
-        let mut sum: usize = 0;
-        for i in 0..SIZE {
-            sum += self.bytes[i] as usize;
-        }
-        sum
+        self.bytes.iter().map(|lane| *lane as usize).sum()
     }
 }

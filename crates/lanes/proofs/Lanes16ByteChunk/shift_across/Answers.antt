@@ -1,18 +1,14 @@
-use mathlib.Core.Path.{refl}
-use native.Mathlib.Omega.{arith}
+use Rattle.std.proofs.Common.{rules, ◌≡◌, ℕ, zero, suc, ◌-◌, ◌<◌, ◌∷◌, get_or, take, sym, ◌∙◌, arith}
 use Rattle.chunk.proofs.Rows.{row_across, across_at}
-use Rattle.chunk.proofs.Loops.{fills_more, fills_all, fills_row}
-use Rattle.lanes.proofs.Own.{row_in}
+use Rattle.lanes.proofs.Own.{row_in, lanes_are}
 use Rattle.lanes.proofs.Lanes16ByteChunk.shift_across.Goals as goal
 
-pub loop-i-init : goal.loop-i-init
-loop-i-init c = record { whole = row_across (row_in c.args.self) (row_in c.args.other); long = refl; same = refl }
-
-pub loop-i-preserved : goal.loop-i-preserved
-loop-i-preserved c = fills_more c.loop-i.invariant c.loop-i-test.true (across_at _ c.args.other.bytes (omega arith) c.loop-i-test.true)
-
-pub invariant_of-result : goal.invariant_of-result
-invariant_of-result c = record { row = fills_row c.loop-i.invariant c.loop-i-test.false }
-
 pub returns : goal.returns
-returns c = fills_all c.loop-i.invariant c.loop-i-test.false
+returns c = lanes_are c.from_fn.result (row_across (row_in c.args.self) (row_in c.args.other)) at
+  where
+    at : (i : ℕ) → i < 16 → get_or c.from_fn.result.bytes i 0 ≡ get_or (get_or c.args.self.bytes 15 0 ∷ take 15 c.args.other.bytes) i 0
+    at zero lt = let made = c.from_fn.ensures 0 lt in search rules
+    at (suc k) lt =
+        let made = c.from_fn.ensures (suc k) lt in
+        let lane : get_or c.from_fn.result.bytes (suc k) 0 ≡ get_or c.args.other.bytes (suc k - 1) 0 = search rules in
+        lane ∙ sym (across_at (get_or c.args.self.bytes 15 0) c.args.other.bytes (omega arith) lt)

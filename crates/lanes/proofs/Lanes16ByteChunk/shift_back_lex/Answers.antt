@@ -1,17 +1,9 @@
-use mathlib.Core.Path.{refl, sym, ◌∙◌}
+use Rattle.std.proofs.Common.{rules, ◌∙◌, sym}
 use Rattle.chunk.proofs.Rows.{row_back, back_at}
-use Rattle.chunk.proofs.Loops.{fills_none, fills_more, fills_all, fills_row}
-use Rattle.lanes.proofs.Own.{row_in}
+use Rattle.lanes.proofs.Own.{row_in, lanes_are}
 use Rattle.lanes.proofs.Lanes16ByteChunk.shift_back_lex.Goals as goal
 
-pub loop-i-init : goal.loop-i-init
-loop-i-init c = fills_none (row_back c.requires (row_in c.args.self)) refl
-
-pub loop-i-preserved : goal.loop-i-preserved
-loop-i-preserved c = fills_more c.loop-i.invariant c.loop-i-test.true (back_at c.requires (row_in c.args.self) c.loop-i-test.true ∙ sym c.lane.ensures)
-
-pub invariant_of-result : goal.invariant_of-result
-invariant_of-result c = record { row = fills_row c.loop-i.invariant c.loop-i-test.false }
-
 pub returns : goal.returns
-returns c = fills_all c.loop-i.invariant c.loop-i-test.false
+returns c =
+    lanes_are c.from_fn.result (row_back c.requires (row_in c.args.self))
+    (λ i lt. let made = c.from_fn.ensures i lt in (search rules) ∙ sym (back_at c.requires (row_in c.args.self) lt))
