@@ -17,11 +17,9 @@ pub fn count<M: Measure>(measure: &M, text: Checked<'_>) -> usize
 pub fn index<M: Measure>(measure: &M, text: Checked<'_>, place: usize) -> usize
     ensures { result ≡ index M.Measure.weight text.entry.bytes.now place }
 {
-    let mut sum = 0;
-    for p in 0..place.min(text.len()) {
-        sum += measure.weight_at(text, p + 1);
-    }
-    sum
+    (1..=place.min(text.len()))
+        .map(|p| measure.weight_at(text, p))
+        .sum()
 }
 
 // Where index k begins: the length if k is above the count, else the end of the shortest run of first cells that
@@ -33,14 +31,14 @@ pub fn start<M: Measure>(measure: &M, text: Checked<'_>, k: usize) -> usize
     let len = text.len();
     let mut best = 0;
     let mut sum = 0;
-    for p in 0..len {
-        let weight = measure.weight_at(text, p + 1);
+    for p in 1..=len {
+        let weight = measure.weight_at(text, p);
         sum += weight;
         if sum > k {
             return best;
         }
         if weight > 0 {
-            best = p + 1;
+            best = p;
         }
     }
     if sum < k { len } else { best }
