@@ -1,12 +1,14 @@
 -- The start of an index, by a walk and by rows. Assumes nothing.
-use Rattle.std.proofs.Common.{◌≡◌, ℕ, suc, ◌+◌, ◌-◌, ◌<◌, ◌≤◌, Bool, cond, List, length, get_or, take, drop, sym, refl, ap, ◌∙◌, subst, ⊎_elim, arith, length-drop, length-take}
+use Rattle.std.proofs.Common.{◌≡◌, ℕ, suc, ◌+◌, ◌-◌, ◌<◌, ◌≤◌, Bool, true, List, length, get_or, take, drop, sym, ap, ◌∙◌, subst, ⊎_elim, arith, length-drop, length-take}
 use mir.Val.{bool_byte}
 use Rattle.std.proofs.lemmas.Simd.{get_or-chunk}
 use Rattle.std.proofs.lemmas.Bool.{cases_lt}
 use Rattle.chunk.proofs.Rows.{flag_byte}
-use Rattle.scan.specs.Marks.{Rule, mark, counted}
+use Rattle.scan.specs.Marks.{Rule, counted}
 use Rattle.scan.proofs.Marking.{mark_byte, counted_on, counted_next, counted_most}
+use Rattle.utf8.specs.FirstFault.{is_text}
 use Rattle.utf8.specs.Grammar.{Text}
+use Rattle.utf8.proofs.Means.{text_from_test}
 use Rattle.cells.specs.Cells.{Lawful, index, count, start}
 use Rattle.cells.specs.Near.{back}
 use Rattle.cells.proofs.Sums.{sum_mono}
@@ -18,15 +20,13 @@ use Rattle.counted.proofs.Linking.{linked_index}
 -- byte i of the part of a text from a place to another
 pub record Part (t : List ℕ) (from to i : ℕ) : Type 0 where
   pub below : i < to - from
+  pub inside : from + i < length t
   pub is : get_or (take (to - from) (drop from t)) i 0 ≡ get_or t (from + i) 0
 
 pub part : (t : List ℕ) (from to i : ℕ) → i < length (take (to - from) (drop from t)) → Part t from to i
 part t from to i h =
     let l : i < to - from = omega (arith, length-take (to - from) (drop from t)) in
-    record { below = l; is = get_or-chunk from (to - from) t i 0 l }
-
-pub part_end : (t : List ℕ) (from to i : ℕ) → to ≤ length t → i ≤ length (take (to - from) (drop from t)) → length (take (to - from) (drop from t)) ≤ i → i ≡ to - from
-part_end t from to i w h k = omega (arith, length-take (to - from) (drop from t), length-drop from t)
+    record { below = l; inside = omega (arith, length-take (to - from) (drop from t), length-drop from t); is = get_or-chunk from (to - from) t i 0 l }
 
 -- a walk with the two bytes before its place at hand
 pub record Walking (hit : Rule) (weight : List ℕ → ℕ → ℕ) (t : List ℕ) (k p n far near : ℕ) : Type 0 where
@@ -34,10 +34,9 @@ pub record Walking (hit : Rule) (weight : List ℕ → ℕ → ℕ) (t : List �
   pub second : far ≡ back 2 t p
   pub first : near ≡ back 1 t p
 
-module _ {ends : List ℕ → ℕ → Bool} {weight : List ℕ → ℕ → ℕ} {split : ℕ → ℕ → Bool} {hit : Rule} (laws : Lawful ends weight) (link : Linked hit weight split) (t : List ℕ) (well : Text t) where
-  -- at the start of the text
-  pub reached_none : (k : ℕ) → Reached hit weight t k 0 0
-  reached_none k = record { within = omega arith; right = refl; early = λ z. absurd (omega arith) }
+module _ {ends : List ℕ → ℕ → Bool} {weight : List ℕ → ℕ → ℕ} {split : ℕ → ℕ → Bool} {hit : Rule} (laws : Lawful ends weight) (link : Linked hit weight split) {t : List ℕ} (sound : is_text t ≡ true) where
+  well : Text t
+  well = text_from_test t sound
 
   module _ {k p n : ℕ} (so : Reached hit weight t k p n) where
     reached_index : n ≡ index weight t p + ahead split t p
@@ -90,36 +89,42 @@ module _ {ends : List ℕ → ℕ → Bool} {weight : List ℕ → ℕ → ℕ} 
         (cases_lt (start weight t k) p))
         (cases_lt (count weight t) k)
 
-  module _ {k p n far near : ℕ} (w : Walking hit weight t k p n far near) (byte : ℕ) (is : byte ≡ get_or t p 0) (s : Bool) (es : s ≡ split near byte) where
-    split_here : bool_byte s ≡ ahead split t p
-    split_here = ap bool_byte es ∙ flag_byte (split near byte) ∙ ap (λ (x : ℕ). cond (split x byte) 1 0) w.first ∙ ap (λ (x : ℕ). cond (split (back 1 t p) x) 1 0) is
+  -- where a walk is at byte i of the part from a place to another, and s says whether that byte's place lies inside a cell
+  module _ (from to : ℕ) {k i n far near : ℕ} (w : Walking hit weight t k (from + i) n far near) (h : i < length (take (to - from) (drop from t)))
+      {s : Bool} (es : s ≡ split near (get_or (take (to - from) (drop from t)) i 0)) where
+    split_here : bool_byte s ≡ ahead split t (from + i)
+    split_here =
+        let is = (part t from to i h).is in
+        let e : s ≡ split (back 1 t (from + i)) (back 0 t (from + i)) = cc (es, w.first, is) in
+        ap bool_byte e ∙ flag_byte (split (back 1 t (from + i)) (back 0 t (from + i)))
 
     -- what has ended is what is counted, without the cell that the place lies in
     pub ended_fits : bool_byte s ≤ n
     ended_fits = omega (arith, reached_index w.so, split_here)
 
-    pub ended_is : n - bool_byte s ≡ index weight t p
+    pub ended_is : n - bool_byte s ≡ index weight t (from + i)
     ended_is = omega (arith, reached_index w.so, split_here)
 
-    module _ (b : Bool) (eb : b ≡ hit far near byte) (h : p < length t) where
-      here : bool_byte b ≡ mark hit (back 2 t p) (back 1 t p) (back 0 t p)
-      here =
-          mark_byte hit b far near byte eb ∙ ap (λ (x : ℕ). mark hit x near byte) w.second ∙ ap (λ (x : ℕ). mark hit (back 2 t p) x byte) w.first ∙ ap (mark hit (back 2 t p) (back 1 t p)) is
+    -- where b says whether the byte counts
+    module _ {b : Bool} (eb : b ≡ hit far near (get_or (take (to - from) (drop from t)) i 0)) where
+      next : n + bool_byte b ≡ counted hit t 0 (from + i + 1)
+      next = omega (arith, w.so.right, mark_byte hit b (back 2 t (from + i)) (back 1 t (from + i)) (back 0 t (from + i)) (cc (eb, w.first, w.second, (part t from to i h).is)), counted_next hit t (from + i) (part t from to i h).inside)
 
-      pub walking_few : n + bool_byte b ≤ p + 1
-      walking_few = omega (arith, w.so.right, here, counted_next hit t p h, counted_most hit t 0 (p + 1))
+      pub walking_few : n + bool_byte b ≤ from + i + 1
+      walking_few = omega (arith, next, counted_most hit t 0 (from + i + 1))
 
-      pub walking_more : (n - bool_byte s ≡ k → ⊥) → Walking hit weight t k (p + 1) (n + bool_byte b) near byte
+      pub walking_more : (n - bool_byte s ≡ k → ⊥) → Walking hit weight t k (from + (i + 1)) (n + bool_byte b) near (get_or (take (to - from) (drop from t)) i 0)
       walking_more ne =
-          let up : p + 1 ≡ suc p = omega arith in
-          let less : index weight t p < k = ⊎_elim (λ (l : index weight t p < k). l) (λ (l : k ≤ index weight t p). absurd (ne (omega (arith, ended_is, reached_low w.so)))) (cases_lt (index weight t p) k) in
-          let down : p + 1 - 1 ≡ p = omega arith in
+          let up : from + (i + 1) ≡ suc (from + i) = omega arith in
+          let one : from + i + 1 ≡ from + (i + 1) = omega arith in
+          let less : index weight t (from + i) < k = ⊎_elim (λ (l : index weight t (from + i) < k). l) (λ (l : k ≤ index weight t (from + i)). absurd (ne (omega (arith, ended_is, reached_low w.so)))) (cases_lt (index weight t (from + i)) k) in
+          let down : from + (i + 1) - 1 ≡ from + i = omega arith in
           record {
             so = record {
-              within = omega arith;
-              right = omega (arith, w.so.right, here, counted_next hit t p h);
+              within = omega (arith, (part t from to i h).inside);
+              right = next ∙ ap (counted hit t 0) one;
               early = λ z. subst (λ (x : ℕ). index weight t x < k) (sym down) less;
             };
             second = w.first ∙ sym (ap (back 2 t) up);
-            first = is ∙ sym (ap (back 1 t) up);
+            first = (part t from to i h).is ∙ sym (ap (back 1 t) up);
           }

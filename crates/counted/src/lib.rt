@@ -1,7 +1,7 @@
 // Sums and starts, for every measure whose weights a rule counts.
 #![tactic(auto)]
 
-ghost use Rattle.std.specs.Prelude.{◌≡◌, ℕ, ◌-◌, ◌≤◌, Bool, true, List, length};
+ghost use Rattle.std.specs.Prelude.{◌≡◌, ℕ, ◌-◌, Bool, List};
 ghost use Rattle.cells.specs.Cells.{Lawful, index, count as weighed};
 ghost use Rattle.counted.specs.Linked.{Linked, ahead};
 

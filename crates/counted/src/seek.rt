@@ -1,5 +1,5 @@
 // The start of an index: the head byte by byte, then rows as long as the start lies past them, then bytes again.
-ghost use Rattle.std.specs.Prelude.{◌≡◌, ◌*◌, ◌<◌, ◌≤◌, true, length};
+ghost use Rattle.std.specs.Prelude.{◌≡◌, ◌+◌, ◌*◌, ◌<◌, ◌≤◌, true, length};
 ghost use Rattle.utf8.specs.FirstFault.{is_text};
 ghost use Rattle.cells.specs.Cells.{index, start};
 ghost use Rattle.counted.specs.Linked.{Reached};
@@ -8,86 +8,120 @@ use crate::Counted;
 use cells::bytes::byte_back;
 use chunk::ByteChunk;
 use scan::round;
+use std::marker::PhantomData;
 use utf8::Checked;
 
-// Goes on byte by byte to a place, or to where k has ended if that comes first.
-fn walk<C: Counted>(text: &[u8], from: usize, to: usize, so_far: usize, k: usize) -> (usize, usize)
-    requires sound { is_text text.now ≡ true }
-    requires order { from ≤ to }
-    requires within { to ≤ length text.now }
-    requires so { Reached C.Scan.hit C.Counted.weight text.now k from so_far }
-    ensures so { Reached C.Scan.hit C.Counted.weight text.now k result.0 result.1 }
-    ensures within { result.0 ≤ to }
-    ensures stop { result.0 < to → index C.Counted.weight text.now result.0 ≡ k }
-{
-    let mut far = byte_back(text, 2, from);
-    let mut near = byte_back(text, 1, from);
-    let mut count = so_far;
-    for (i, byte) in text[from..to].iter().enumerate() {
-        let ended = count - C::splits(near, *byte) as usize;
-        if ended == k {
-            return (from + i, count);
-        }
-        count += C::single(far, near, *byte) as usize;
-        far = near;
-        near = *byte;
-    }
-    (to, count)
-}
-
-// How many rows to go over at once, of those in the bytes that are left: so many that `need` bytes are not passed, but
-// at least so many.
-fn skip_len(left: usize, size: usize, most: usize, need: usize, least: usize) -> usize
-    requires some { 0 < size }
-    requires least { (0 < least) × ((least ≤ most) × (least * size ≤ left)) }
-    ensures some { 0 < result }
-    ensures few { result ≤ most }
-    ensures fits { result * size ≤ left }
-{
-    (left / size).min(most).min(need / size).max(least)
-}
-
-// Goes over whole rows, at least so many at once, as long as fewer than k are counted.
-fn skip<C: Counted, K: ByteChunk>(
-    text: &[u8],
-    from: usize,
-    so_far: usize,
+// The way to where k begins: the place that it has come to, and what is counted before it.
+#[derive(Drop)]
+struct Way<'a, C: Counted> {
+    text: &'a [u8],
     k: usize,
-    least: usize,
-) -> (usize, usize)
-    requires sound { is_text text.now ≡ true }
-    requires least { (0 < least) × (least ≤ 4) }
-    requires so { Reached C.Scan.hit C.Counted.weight text.now k from so_far }
-    ensures { Reached C.Scan.hit C.Counted.weight text.now k result.0 result.1 }
-{
-    let size = K::SIZE;
-    let mut place = from;
-    let mut count = so_far;
-    while (text.len() - place) / size >= least {
-        let need = k.saturating_sub(count).saturating_sub(1);
-        let n = skip_len(text.len() - place, size, K::MAX_ACC, need, least);
-        let more = round::<C, K>(text, place, n);
-        if count + more >= k {
-            break;
+    place: usize,
+    count: usize,
+    rule: PhantomData<C>,
+    ghost sound: { is_text text.now ≡ true },
+    ghost reached: { Reached C.Scan.hit C.Counted.weight text.now k place count },
+}
+
+impl<'a, C: Counted> Way<'a, C> {
+    // At the start of the text.
+    fn new(text: Checked<'a>, k: usize) -> Self
+        ensures text { result.text.now ≡ text.entry.bytes.now }
+        ensures k { result.k ≡ k }
+        ensures place { result.place ≡ 0 }
+    {
+        Way {
+            text: text.bytes(),
+            k,
+            place: 0,
+            count: 0,
+            rule: PhantomData,
         }
-        count += more;
-        place += n * size;
     }
-    (place, count)
+
+    // The same way, come to another place.
+    fn at(self, place: usize, count: usize) -> Self
+        requires { Reached C.Scan.hit C.Counted.weight self.text.now self.k place count }
+        ensures text { result.text.now ≡ self.entry.text.now }
+        ensures k { result.k ≡ self.entry.k }
+        ensures place { result.place ≡ place }
+    {
+        Way {
+            text: self.text,
+            k: self.k,
+            place,
+            count,
+            rule: PhantomData,
+        }
+    }
+
+    // Goes on byte by byte to a place, or to where k has ended if that comes first.
+    fn walk(self, to: usize) -> Self
+        requires order { self.place ≤ to }
+        requires within { to ≤ length self.text.now }
+        ensures text { result.text.now ≡ self.entry.text.now }
+        ensures k { result.k ≡ self.entry.k }
+        ensures stop { result.place < to → index C.Counted.weight result.text.now result.place ≡ result.k }
+    {
+        let mut far = byte_back(self.text, 2, self.place);
+        let mut near = byte_back(self.text, 1, self.place);
+        let mut count = self.count;
+        for (i, byte) in self.text[self.place..to].iter().enumerate() {
+            if count - C::splits(near, *byte) as usize == self.k {
+                let place = self.place + i;
+                return self.at(place, count);
+            }
+            count += C::single(far, near, *byte) as usize;
+            far = near;
+            near = *byte;
+        }
+        self.at(to, count)
+    }
+
+    // How many rows to go over at once, of those that are left: so many that k is not passed, but at least so many.
+    fn rows_at_once<K: ByteChunk>(&self, least: usize) -> usize
+        requires some { 0 < least }
+        requires few { least ≤ 4 }
+        requires room { self.now.place + least * K.ByteChunk.SIZE ≤ length self.now.text.now }
+        ensures some { 0 < result }
+        ensures few { result ≤ K.ByteChunk.MAX_ACC }
+        ensures room { self.now.place + result * K.ByteChunk.SIZE ≤ length self.now.text.now }
+    {
+        let left = self.text.len() - self.place;
+        let need = self.k.saturating_sub(self.count).saturating_sub(1);
+        (left.min(need) / K::SIZE).min(K::MAX_ACC).max(least)
+    }
+
+    // Goes over whole rows, at least so many at once, as long as fewer than k are counted.
+    fn skip<K: ByteChunk>(self, least: usize) -> Self
+        requires some { 0 < least }
+        requires few { least ≤ 4 }
+        ensures text { result.text.now ≡ self.entry.text.now }
+        ensures k { result.k ≡ self.entry.k }
+    {
+        let mut way = self;
+        // no `for`: how far each round goes shows only inside it
+        while way.text.len() - way.place >= least * K::SIZE {
+            let n = way.rows_at_once::<K>(least);
+            let place = way.place + n * K::SIZE;
+            let count = way.count + round::<C, K>(way.text, way.place, n);
+            if count >= way.k {
+                break;
+            }
+            way = way.at(place, count);
+        }
+        way
+    }
 }
 
 // Where index k begins.
 pub fn start_of<C: Counted, K: ByteChunk>(text: Checked<'_>, k: usize, head: usize) -> usize
     ensures { result ≡ start C.Counted.weight text.entry.bytes.now k }
 {
-    let bytes = text.bytes();
-    let head = head.min(bytes.len());
-    let (place, count) = walk::<C>(bytes, 0, head, 0, k);
-    if place < head {
-        return place;
+    let head = head.min(text.len());
+    let way = Way::<C>::new(text, k).walk(head);
+    if way.place < head {
+        return way.place;
     }
-    let (place, count) = skip::<C, K>(bytes, place, count, k, 4);
-    let (place, count) = skip::<C, K>(bytes, place, count, k, 1);
-    let (place, _) = walk::<C>(bytes, place, bytes.len(), count, k);
-    place
+    way.skip::<K>(4).skip::<K>(1).walk(text.len()).place
 }

@@ -1,14 +1,12 @@
-use Rattle.std.proofs.Common.{ℕ, ◌-◌, List, refl, ap, ◌∙◌, arith}
+use Rattle.std.proofs.Common.{refl, arith}
 use Rattle.utf8.proofs.Means.{text_from_test}
-use Rattle.cells.specs.Cells.{index}
 use Rattle.counted.proofs.Linking.{Summing, sum_none, sum_some}
 use Rattle.counted.proofs.sum.Given as given
 use Rattle.counted.proofs.sum.Goals as goal
 
 pub returns-then-a-to : goal.returns-then-a-to
 returns-then-a-to g c =
-    sum_none g.met.C.Counted.lawful c.bytes-bytes.result.now (text_from_test _ c.bytes-bytes.ensures.sound) c.args.a c.args.b c.min-to.result c.min-to.ensures c.if-a-to.true
-    ∙ ap (λ (t : List ℕ). index g.C.Counted.weight t c.args.b - index g.C.Counted.weight t c.args.a) c.bytes-bytes.ensures.value
+    let e = sum_none g.met.C.Counted.lawful c.bytes-bytes.result.now (text_from_test _ c.bytes-bytes.ensures.sound) c.args.a c.args.b c.min-to.result c.min-to.ensures c.if-a-to.true in cc
 
 pub overflow_add-result : goal.overflow_add-result
 overflow_add-result g c =
@@ -22,4 +20,4 @@ pub overflow_sub-result : goal.overflow_sub-result
 overflow_sub-result g c = (summed g c).covers
 
 pub returns : goal.returns
-returns g c = (summed g c).is ∙ ap (λ (t : List ℕ). index g.C.Counted.weight t c.args.b - index g.C.Counted.weight t c.args.a) c.bytes-bytes.ensures.value
+returns g c = let e = (summed g c).is in cc
