@@ -26,11 +26,17 @@ pub begun_next : (t : List ℕ) (i : ℕ) → i < length t → begun t (i + 1) �
 begun_next t i h = omega (arith, counted_next leads t i h, counted_next fours t i h)
 
 -- byte i of the part from a place to another, where a walk has come to it
-pub begun_here : (t : List ℕ) (from to i count more : ℕ) → i < length (take (to - from) (drop from t)) → to ≤ length t → count ≡ begun t (from + i) → more ≡ unit (get_or (take (to - from) (drop from t)) i 0)
-    → (from + i < to) × (count + more ≡ begun t (from + i + 1))
-begun_here t from to i count more h w e m =
+pub record Here (t : List ℕ) (from to i next : ℕ) : Type 0 where
+  pub below : from + i < to
+  pub inside : from + i < length t
+  pub right : next ≡ begun t (from + (i + 1))
+
+pub begun_here : (t : List ℕ) (from to i count more : ℕ) → i < length (take (to - from) (drop from t)) → count ≡ begun t (from + i) → more ≡ unit (get_or (take (to - from) (drop from t)) i 0)
+    → Here t from to i (count + more)
+begun_here t from to i count more h e m =
     let here = part t from to i h in
-    (omega (arith, here.below), omega (arith, m ∙ ap unit here.is, begun_next t (from + i) (omega (arith, here.below))))
+    let up : from + i + 1 ≡ from + (i + 1) = omega arith in
+    record { below = omega (arith, here.below); inside = here.inside; right = omega (arith, m ∙ ap unit here.is, begun_next t (from + i) here.inside, ap (begun t) up) }
 
 -- a stretch of n bytes more
 pub begun_on : (t : List ℕ) (p n x y : ℕ) → x ≡ counted leads t p n → y ≡ counted fours t p n → (begun t p + (x + y) ≡ begun t (p + n)) × (x + y ≤ n + n)
@@ -77,13 +83,20 @@ round_low : (n w most : ℕ) → 0 < n → w < most → n * w + 1 ≤ n * most
 round_low zero w most z h = absurd (omega arith)
 round_low (suc n) w most z h = omega (arith, mul-le-mul_left (suc n) h, mul_comm (suc n) (suc w), mul_comm (suc n) w, add-mul 1 w (suc n))
 
--- so after a round of n rows there is room for the rows that are left
-pub round_keeps : (t : List ℕ) (p n w most rows count next k : ℕ) → Text t → p + n * w ≤ length t → 0 < n → n ≤ rows → w < most → count ≡ begun t p → next ≡ begun t (p + n * w)
-    → count + rows * most ≤ k → next + (rows - n) * most ≤ k
-round_keeps t p n w most rows count next k u h z l a ec en low =
+-- so many rows are left of those that neither pass the end of the text nor unit k
+pub record Rounds (place rows w most len count k : ℕ) : Type 0 where
+  pub room : place + rows * w ≤ len
+  pub low : count + rows * most ≤ k
+
+-- after a round of n rows there is room for the rest of the rows
+pub round_keeps : {p rows w most count k : ℕ} (t : List ℕ) (n next : ℕ) → Text t → Rounds p rows w most (length t) count k → 0 < n → n ≤ rows → w < most → count ≡ begun t p → next ≡ begun t (p + n * w)
+    → Rounds (p + n * w) (rows - n) w most (length t) next k
+round_keeps {p} {rows} {w} {most} {count} {k} t n next u r z l a ec en =
     let s : n + (rows - n) ≡ rows = omega arith in
     let m : (n + (rows - n)) * most ≡ rows * most = ap (λ (x : ℕ). x * most) s in
-    omega (arith, begun_row t p (n * w) u h, round_low n w most z a, add-mul n (rows - n) most)
+    let mw : (n + (rows - n)) * w ≡ rows * w = ap (λ (x : ℕ). x * w) s in
+    let room : p + n * w + (rows - n) * w ≤ length t = omega (arith, r.room, mw, add-mul n (rows - n) w) in
+    record { room = room; low = omega (arith, r.low, m, begun_row t p (n * w) u (omega (arith, room)), round_low n w most z a, add-mul n (rows - n) most) }
 
 -- ---- at a char start all that has begun has ended
 quiet : (t : List ℕ) (q n : ℕ) → q + n ≤ length t → ((i : ℕ) → q ≤ i → i < q + n → get_or t i 0 < 0xF0) → counted fours t 0 (q + n) ≡ counted fours t 0 q
@@ -163,8 +176,8 @@ stays t k p u h (suc n) l =
     (stays t k p u h n (omega arith)))
     (cases_Bool (char_ends t (suc (p + n))))
 
-pub started : (t : List ℕ) (k p n : ℕ) → Text t → Begun t k p n → (p < length t → k < begun t (p + 1)) → p ≡ start unit_weight t k
-started t k p n u g out =
+pub started : {t : List ℕ} {k p n : ℕ} → Text t → Begun t k p n → (p < length t → k < begun t (p + 1)) → p ≡ start unit_weight t k
+started {t} {k} {p} {n} u g out =
     let within = g.within in
     let cs : char_start t p ≡ true =
     ⊎_elim

@@ -10,34 +10,14 @@ ghost use Rattle.units.specs.Units.{unit, begun, Begun};
 use chunk::ByteChunk;
 use measures::chars::Chars;
 use measures::utf16::Surrogates;
-use scan::round;
+use scan::{Scan, round};
 use utf8::Checked;
 
-// How many units a byte begins.
+// How many units a byte begins, by rules that go by it alone.
 fn units(byte: u8) -> usize
     ensures { result ≡ unit byte }
 {
-    (byte < 0x80 || byte > 0xBF) as usize + (byte >= 0xF0) as usize
-}
-
-// Goes on byte by byte to a place, or to where more than k units have begun if that comes first.
-fn by_bytes(text: &[u8], from: usize, to: usize, so_far: usize, k: usize) -> (usize, usize)
-    requires order { from ≤ to }
-    requires within { to ≤ length text.now }
-    requires so { Begun text.now k from so_far }
-    ensures so { Begun text.now k result.0 result.1 }
-    ensures within { result.0 ≤ to }
-    ensures stop { result.0 < to → k < begun text.now (result.0 + 1) }
-{
-    let mut count = so_far;
-    for (i, byte) in text[from..to].iter().enumerate() {
-        let more = units(*byte);
-        if count + more > k {
-            return (from + i, count);
-        }
-        count += more;
-    }
-    (to, count)
+    Chars::single(0, 0, byte) as usize + Surrogates::single(0, 0, byte) as usize
 }
 
 // The units that begin in n rows from a place on.
@@ -49,70 +29,117 @@ fn units_in_rows<K: ByteChunk>(text: &[u8], place: usize, n: usize) -> usize
     round::<Chars, K>(text, place, n) + round::<Surrogates, K>(text, place, n)
 }
 
-// How many rows to take in one round: as many as a sum takes and are left, but no more than so many.
-fn round_len(left: usize, size: usize, most: usize, max_round_len: usize) -> usize
-    requires some { (0 < size) × ((0 < most) × (0 < max_round_len)) }
-    requires room { size ≤ left }
-    ensures some { 0 < result }
-    ensures few { result ≤ most }
-    ensures low { result ≤ max_round_len }
-    ensures fits { result * size ≤ left }
-{
-    most.min(max_round_len).min(left / size)
+// The way to where unit k begins: the place that it has come to, and how many units begin before it, no more than k.
+// Apart from the way in `counted`: one type for both facts would need a trait that has them and their laws.
+#[derive(Drop)]
+struct Way<'a> {
+    text: &'a [u8],
+    k: usize,
+    place: usize,
+    count: usize,
+    ghost sound: { is_text text.now ≡ true },
+    ghost begun: { Begun text.now k place count },
 }
 
-// Goes over rounds of rows that cannot pass unit k: a stretch begins at most one unit more than it has bytes, so a row
-// less than a sum takes.
-fn by_rounds<K: ByteChunk>(text: &[u8], from: usize, so_far: usize, k: usize) -> (usize, usize)
-    requires sound { is_text text.now ≡ true }
-    requires so { Begun text.now k from so_far }
-    ensures { Begun text.now k result.0 result.1 }
-{
-    let size = K::SIZE;
-    let most = K::MAX_ACC;
-    let mut max_round_len = (k - so_far) / most;
-    let mut place = from;
-    let mut count = so_far;
-    while max_round_len > 0 && text.len() - place >= size {
-        let n = round_len(text.len() - place, size, most, max_round_len);
-        max_round_len -= n;
-        count += units_in_rows::<K>(text, place, n);
-        place += n * size;
-    }
-    (place, count)
-}
-
-// Goes over single rows, as long as fewer than k units have begun.
-fn by_rows<K: ByteChunk>(text: &[u8], from: usize, so_far: usize, k: usize) -> (usize, usize)
-    requires { Begun text.now k from so_far }
-    ensures { Begun text.now k result.0 result.1 }
-{
-    let size = K::SIZE;
-    let mut place = from;
-    let mut count = so_far;
-    while text.len() - place >= size {
-        let more = units_in_rows::<K>(text, place, 1);
-        if count + more >= k {
-            break;
+impl<'a> Way<'a> {
+    // At the start of the text.
+    fn new(text: Checked<'a>, k: usize) -> Self
+        ensures text { result.text.now ≡ text.entry.bytes.now }
+        ensures k { result.k ≡ k }
+        ensures place { result.place ≡ 0 }
+    {
+        Way {
+            text: text.bytes(),
+            k,
+            place: 0,
+            count: 0,
         }
-        count += more;
-        place += size;
     }
-    (place, count)
+
+    // The same way, come to another place.
+    fn at(self, place: usize, count: usize) -> Self
+        requires { Begun self.text.now self.k place count }
+        ensures text { result.text.now ≡ self.entry.text.now }
+        ensures k { result.k ≡ self.entry.k }
+        ensures place { result.place ≡ place }
+        ensures count { result.count ≡ count }
+    {
+        Way {
+            text: self.text,
+            k: self.k,
+            place,
+            count,
+        }
+    }
+
+    // Goes on byte by byte to a place, or to where more than k units have begun if that comes first.
+    fn by_bytes(self, to: usize) -> Self
+        requires order { self.place ≤ to }
+        requires within { to ≤ length self.text.now }
+        ensures text { result.text.now ≡ self.entry.text.now }
+        ensures k { result.k ≡ self.entry.k }
+        ensures stop { result.place < to → result.k < begun result.text.now (result.place + 1) }
+    {
+        let mut count = self.count;
+        for (i, byte) in self.text[self.place..to].iter().enumerate() {
+            let more = units(*byte);
+            if count + more > self.k {
+                let place = self.place + i;
+                return self.at(place, count);
+            }
+            count += more;
+        }
+        self.at(to, count)
+    }
+
+    // Goes over rounds of rows that cannot pass unit k: a stretch begins at most one unit more than it has bytes, so a row
+    // less than a sum takes.
+    fn by_rounds<K: ByteChunk>(self) -> Self
+        ensures text { result.text.now ≡ self.entry.text.now }
+        ensures k { result.k ≡ self.entry.k }
+    {
+        let left = self.text.len() - self.place;
+        let rows = ((self.k - self.count) / K::MAX_ACC).min(left / K::SIZE);
+        let mut way = self;
+        for first in (0..rows).step_by(K::MAX_ACC) {
+            let n = (rows - first).min(K::MAX_ACC);
+            let place = way.place + n * K::SIZE;
+            let count = way.count + units_in_rows::<K>(way.text, way.place, n);
+            way = way.at(place, count);
+        }
+        way
+    }
+
+    // Goes over single rows, as long as fewer than k units have begun.
+    fn by_rows<K: ByteChunk>(self) -> Self
+        ensures text { result.text.now ≡ self.entry.text.now }
+        ensures k { result.k ≡ self.entry.k }
+    {
+        let mut way = self;
+        // no `for`: a row that reaches k ends it, and the place moves with the count
+        while way.text.len() - way.place >= K::SIZE {
+            let place = way.place + K::SIZE;
+            let count = way.count + units_in_rows::<K>(way.text, way.place, 1);
+            if count >= way.k {
+                break;
+            }
+            way = way.at(place, count);
+        }
+        way
+    }
 }
 
 // Where the char of unit k begins.
 pub fn start_of<K: ByteChunk>(text: Checked<'_>, k: usize, head: usize) -> usize
     ensures { result ≡ start unit_weight text.entry.bytes.now k }
 {
-    let bytes = text.bytes();
-    let head = head.min(bytes.len());
-    let (place, count) = by_bytes(bytes, 0, head, 0, k);
-    if place < head {
-        return place;
+    let head = head.min(text.len());
+    let way = Way::new(text, k).by_bytes(head);
+    if way.place < head {
+        return way.place;
     }
-    let (place, count) = by_rounds::<K>(bytes, place, count, k);
-    let (place, count) = by_rows::<K>(bytes, place, count, k);
-    let (place, _) = by_bytes(bytes, place, bytes.len(), count, k);
-    place
+    way.by_rounds::<K>()
+        .by_rows::<K>()
+        .by_bytes(text.len())
+        .place
 }

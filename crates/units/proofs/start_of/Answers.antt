@@ -1,16 +1,13 @@
-use Rattle.std.proofs.Common.{ℕ, List, ap, ◌∙◌}
+use Rattle.std.proofs.Common.{◌≡◌, length, arith}
 use Rattle.utf8.proofs.Means.{text_from_test}
-use Rattle.cells.specs.Cells.{start}
-use Rattle.measures.specs.Chars.{unit_weight}
 use Rattle.units.proofs.Begins.{started}
 use Rattle.units.proofs.start_of.Goals as goal
 
-pub returns-then-place-head : goal.returns-then-place-head
-returns-then-place-head g c =
-    started c.bytes-bytes.result.now c.args.k c.by_bytes-place.result.0 c.by_bytes-place.result.1 (text_from_test _ c.bytes-bytes.ensures.sound) c.by_bytes-place.ensures.so (λ h. c.by_bytes-place.ensures.stop c.if-place-head.true)
-    ∙ ap (λ (t : List ℕ). start unit_weight t c.args.k) c.bytes-bytes.ensures.value
+pub returns-then-way-head : goal.returns-then-way-head
+returns-then-way-head g c =
+    let e = started (text_from_test _ c.by_bytes-way.result.sound) c.by_bytes-way.result.begun (λ _. c.by_bytes-way.ensures.stop c.if-way-head.true) in cc
 
 pub returns : goal.returns
 returns g c =
-    started c.bytes-bytes.result.now c.args.k c.by_bytes-place-2.result.0 c.by_bytes-place-2.result.1 (text_from_test _ c.bytes-bytes.ensures.sound) c.by_bytes-place-2.ensures.so c.by_bytes-place-2.ensures.stop
-    ∙ ap (λ (t : List ℕ). start unit_weight t c.args.k) c.bytes-bytes.ensures.value
+    let long : length c.by_bytes.result.text.now ≡ length c.args.text.bytes.now = cc in
+    let e = started (text_from_test _ c.by_bytes.result.sound) c.by_bytes.result.begun (λ h. c.by_bytes.ensures.stop (omega (arith, c.len-2.ensures))) in cc
