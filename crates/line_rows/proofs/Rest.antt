@@ -50,19 +50,15 @@ module _ (t : List ℕ) (place : ℕ) where
         omega (arith, w.counted.right, rest_breaks p, ap (breaks_in t) l, all_ended t)
 
     -- a count that goes on
-    pub rest_passed : {k found n p : ℕ} → Counted t k found place → Passed rest (length rest) (k - found) n p → Passed t (length t) k (found + n) (place + p)
-    rest_passed {k} {found} {n} {p} c w = record {
-      counted = record {
-        right = omega (arith, c.right, w.counted.right, rest_breaks p);
-        few = omega (arith, c.few, w.counted.few);
-        fewest = λ q l.
-            ⊎_elim
-            (λ (a : q < place). c.fewest q a)
-            (λ (a : place ≤ q).
-            let e : place + (q - place) ≡ q = omega arith in
-            omega (arith, c.right, c.few, w.counted.fewest (q - place) (omega arith), rest_breaks (q - place), ap (breaks_in t) e))
-            (cases_lt q place);
-      };
-      within = omega (arith, w.within, rest_length);
-      all = λ l. omega (arith, w.all (omega arith), rest_length);
+    pub rest_counted : {k found bytes n p : ℕ} → Counted t k found place → Passed rest bytes (k - found) n p → Counted t k (found + n) (place + p)
+    rest_counted {k} {found} {bytes} {n} {p} c w = record {
+      right = omega (arith, c.right, w.counted.right, rest_breaks p);
+      few = omega (arith, c.few, w.counted.few);
+      fewest = λ q l.
+          ⊎_elim
+          (λ (a : q < place). c.fewest q a)
+          (λ (a : place ≤ q).
+          let e : place + (q - place) ≡ q = omega arith in
+          omega (arith, c.right, c.few, w.counted.fewest (q - place) (omega arith), rest_breaks (q - place), ap (breaks_in t) e))
+          (cases_lt q place);
     }

@@ -1,11 +1,10 @@
 -- Rows of marks, added up lane by lane before one sum. Assumes nothing.
-use Rattle.std.proofs.Common.{◌≡◌, ℕ, zero, suc, ◌+◌, ◌-◌, ◌*◌, ◌/◌, ◌<◌, ◌≤◌, List, [], ◌∷◌, length, replicate, sym, refl, ap, subst, mul-le-mul_right, suc-mul, add-mul, zero-mul, div-mul-le_self, arith}
+use Rattle.std.proofs.Common.{◌≡◌, ℕ, zero, suc, ◌+◌, ◌-◌, ◌*◌, ◌/◌, ◌<◌, ◌≤◌, List, [], ◌∷◌, length, replicate, sym, refl, ap, subst, mul-le-mul_right, add-mul, zero-mul, div-mul-le_self, arith}
 use lib.Lanes.{zip2, Each1, Each2, sum_l}
 use Rattle.std.proofs.lemmas.Simd.{sum-zip2, Each1-replicate}
 use Rattle.line_rows.specs.Begins.{break_counts, breaks_in}
 use Rattle.line_rows.specs.Marks.{break_marks}
-use Rattle.line_rows.specs.Passing.{Passed}
-use Rattle.line_rows.proofs.Counts.{flag_small, breaks_below}
+use Rattle.line_rows.proofs.Counts.{flag_small}
 
 breaks_row : (t : List ℕ) (p n : ℕ) → breaks_in t (p + n) ≡ breaks_in t p + sum_l (break_marks t p n)
 breaks_row t p zero = let e : p + 0 ≡ p = omega arith in omega (arith, ap (breaks_in t) e)
@@ -35,80 +34,49 @@ adds_below i (x ∷ xs) (y ∷ ys) e o =
     let b : y ≤ 1 = o.0 in
     (omega arith, adds_below i xs ys e.1 o.1)
 
--- one row alone
-module _ (t : List ℕ) (place w : ℕ) {row : List ℕ} (is : row ≡ break_marks t place w) where
-  each_one : Each1 (λ x. x ≤ 1) row
-  each_one = subst (Each1 (λ x. x ≤ 1)) (sym is) (ones t place w)
-
-  row_breaks : (n size : ℕ) → size ≡ w → n ≡ sum_l row → breaks_in t place + n ≡ breaks_in t (place + size)
-  row_breaks n size z e =
-      let m : place + size ≡ place + w = omega arith in
-      omega (arith, breaks_row t place w, ap (breaks_in t) m, ap sum_l is)
-
 zeros_sum : (n : ℕ) → sum_l (replicate n 0) ≡ 0
 zeros_sum zero = refl
 zeros_sum (suc n) = let r = zeros_sum n in omega arith
 
-module _ (t : List ℕ) (w from : ℕ) where
-  -- i rows from a place on are added up in `acc`
-  pub record Added (i place : ℕ) (acc : List ℕ) : Type 0 where
-    pub at : place ≡ from + i * w
-    pub right : breaks_in t from + sum_l acc ≡ breaks_in t place
-    pub small : Each1 (λ x. x ≤ i) acc
+-- i rows of w bytes from a place on are added up in `acc`
+pub record Added (t : List ℕ) (w from i : ℕ) (acc : List ℕ) : Type 0 where
+  pub right : breaks_in t from + sum_l acc ≡ breaks_in t (from + i * w)
+  pub small : Each1 (λ x. x ≤ i) acc
 
-  pub added_none : (acc : List ℕ) → acc ≡ replicate w 0 → Added 0 from acc
-  added_none acc e = record {
-    at = omega (arith, zero-mul w);
-    right = omega (arith, ap sum_l e, zeros_sum w);
-    small = subst (Each1 (λ x. x ≤ 0)) (sym e) (Each1-replicate (λ x. x ≤ 0) w 0 (omega arith));
-  }
+pub added_none : (t : List ℕ) (w from : ℕ) (acc : List ℕ) → acc ≡ replicate w 0 → Added t w from 0 acc
+added_none t w from acc e =
+    let z : from + 0 * w ≡ from = omega (arith, zero-mul w) in
+    record {
+      right = omega (arith, ap sum_l e, zeros_sum w, ap (breaks_in t) z);
+      small = subst (Each1 (λ x. x ≤ 0)) (sym e) (Each1-replicate (λ x. x ≤ 0) w 0 (omega arith));
+    }
 
-module _ {t : List ℕ} {w from i place : ℕ} {acc : List ℕ} (a : Added t w from i place acc) where
-  -- another row begins in the text
-  pub room : (rows : ℕ) → i < rows → from + rows * w ≤ length t → place + w ≤ length t
-  room rows l h = omega (arith, a.at, suc-mul i w, mul-le-mul_right w l)
+module _ {t : List ℕ} {w from i : ℕ} {acc : List ℕ} (a : Added t w from i acc) {row : List ℕ} (is : row ≡ break_marks t (from + i * w) w) where
+  each_one : Each1 (λ x. x ≤ 1) row
+  each_one = subst (Each1 (λ x. x ≤ 1)) (sym is) (ones t (from + i * w) w)
 
-  module _ (row : List ℕ) (is : row ≡ break_marks t place w) where
-    pub added_fits : i < 255 → Each2 (λ x y. x + y < 256) acc row
-    added_fits h = adds_fit i acc row h a.small (each_one t place w is)
+  pub added_fits : i < 255 → Each2 (λ x y. x + y < 256) acc row
+  added_fits h = adds_fit i acc row h a.small each_one
 
-    pub added_more : (next : List ℕ) (size : ℕ) → size ≡ w → length acc ≡ length row → next ≡ zip2 (λ x y. x + y) acc row → Added t w from (i + 1) (place + size) next
-    added_more next size z l e =
-        let s : i + 1 ≡ suc i = omega arith in
-        record {
-          at = omega (arith, a.at, ap (λ (k : ℕ). k * w) s, suc-mul i w);
-          right = omega (arith, a.right, row_breaks t place w is (sum_l row) size z refl, ap sum_l e, sum-zip2 acc row l);
-          small = subst (Each1 (λ x. x ≤ i + 1)) (sym e) (adds_below i acc row a.small (each_one t place w is));
-        }
+  pub added_more : (next : List ℕ) → length acc ≡ length row → next ≡ zip2 (λ x y. x + y) acc row → Added t w from (i + 1) next
+  added_more next l e =
+      let p : from + i * w + w ≡ from + (i + 1) * w = omega (arith, add-mul i 1 w) in
+      record {
+        right = omega (arith, a.right, breaks_row t (from + i * w) w, ap sum_l is, ap (breaks_in t) p, ap sum_l e, sum-zip2 acc row l);
+        small = subst (Each1 (λ x. x ≤ i + 1)) (sym e) (adds_below i acc row a.small each_one);
+      }
 
-module _ (t : List ℕ) (w : ℕ) where
-  -- the breaks before a place are counted, and so many rows are left
-  pub record Left (found place rows : ℕ) : Type 0 where
-    pub right : found ≡ breaks_in t place
-    pub fits : place + rows * w ≤ length t
+-- the whole rows from a place on
+pub whole_rows : (len from size w : ℕ) → size ≡ w → from ≤ len → from + (len - from) / size * w ≤ len
+whole_rows len from size w e h = omega (arith, ap (λ (k : ℕ). (len - from) / size * k) e, div-mul-le_self (len - from) size)
 
-  pub left_all : {bytes most n p : ℕ} (size : ℕ) → size ≡ w → Passed t bytes most n p → Left n p ((length t - p) / size)
-  left_all {p = p} size z h = record {
-    right = h.counted.right;
-    fits =
-        let e : (length t - p) / size * w ≡ (length t - p) / size * size = ap (λ (k : ℕ). (length t - p) / size * k) (sym z) in
-        omega (arith, div-mul-le_self (length t - p) size, h.within);
-  }
+-- i rows and n more, of those that lie in a text
+pub rows_fit : (len from w i n rows : ℕ) → from + rows * w ≤ len → i + n ≤ rows → from + i * w + n * w ≤ len
+rows_fit len from w i n rows f h = omega (arith, f, add-mul i n w, mul-le-mul_right w h)
 
-module _ {t : List ℕ} {w found place rows : ℕ} (l : Left t w found place rows) (round : ℕ) (few : round ≤ rows) where
-  pub round_fits : place + round * w ≤ length t
-  round_fits = omega (arith, l.fits, mul-le-mul_right w few)
-
-  module _ (n : ℕ) (more : breaks_in t place + n ≡ breaks_in t (place + round * w)) where
-    pub round_below : found + n ≤ length t
-    round_below = omega (arith, l.right, breaks_below t (place + round * w), round_fits)
-
-    pub round_more : (size : ℕ) → size ≡ w → Left t w (found + n) (place + round * size) (rows - round)
-    round_more size z =
-        let e : round * size ≡ round * w = ap (λ (k : ℕ). round * k) z in
-        let f : place + round * size ≡ place + round * w = omega arith in
-        let s : round + (rows - round) ≡ rows = omega arith in
-        record {
-          right = omega (arith, l.right, ap (breaks_in t) f);
-          fits = omega (arith, l.fits, add-mul round (rows - round) w, ap (λ (k : ℕ). k * w) s);
-        }
+pub rows_more : (t : List ℕ) (from w i n next count more : ℕ) → breaks_in t from + count ≡ breaks_in t (from + i * w) → breaks_in t (from + i * w) + more ≡ breaks_in t (from + i * w + n * w) → next ≡ i + n
+    → breaks_in t from + (count + more) ≡ breaks_in t (from + next * w)
+rows_more t from w i n next count more e m l =
+    let s : next * w ≡ (i + n) * w = ap (λ (k : ℕ). k * w) l in
+    let p : from + next * w ≡ from + i * w + n * w = omega (arith, s, add-mul i n w) in
+    omega (arith, e, m, ap (breaks_in t) p)

@@ -11,7 +11,7 @@ use Rattle.cells.proofs.Starts.{found_start, start_past}
 use Rattle.measures.specs.Breaks.{unicode_breaks, line_ends, line_weight}
 use Rattle.measures.specs.Lining.{line_lawful}
 use Rattle.line_rows.specs.Begins.{break_counts, flag, breaks_in}
-use Rattle.line_rows.specs.Passing.{Passed}
+use Rattle.line_rows.specs.Passing.{Counted}
 use Rattle.line_rows.specs.Steps.{NextStart}
 use Rattle.line_rows.proofs.Pending.{begun_ended, start_ended}
 
@@ -74,16 +74,16 @@ module _ (t : List ℕ) (well : Text t) where
         (cases_lt (suc q) p)
 
     -- the first char start after k breaks have counted is where line k starts
-    pub arrives : {k n : ℕ} → Passed t (length t) k n p → r ≡ start (line_weight unicode_breaks) t k
-    arrives {k} {n} w =
+    pub arrives : {k n : ℕ} → Counted t k n p → (n < k → p ≡ length t) → r ≡ start (line_weight unicode_breaks) t k
+    arrives {k} {n} w all =
         let m : p + (r - p) ≡ r = omega (arith, next.onward) in
         let i : index (line_weight unicode_breaks) t r ≡ n =
-        omega (arith, start_ended t r (cut_from_start t r well next.start), same_begun (r - p) (omega arith), ap (breaks_in t) m, w.counted.right) in
+        omega (arith, start_ended t r (cut_from_start t r well next.start), same_begun (r - p) (omega arith), ap (breaks_in t) m, w.right) in
         ⊎_elim
         (λ (l : n < k).
-        let e : r ≡ length t = omega (arith, w.all l, next.onward, in_text) in
+        let e : r ≡ length t = omega (arith, all l, next.onward, in_text) in
         e ∙ sym (start_past laws t well k (omega (arith, ap (index (line_weight unicode_breaks) t) e))))
         (λ (l : k ≤ n).
-        first_start laws t well k r in_text (omega (arith, w.counted.few))
-        (few_ended k (λ q h. omega (arith, begun_ended t q, w.counted.fewest q h))))
+        first_start laws t well k r in_text (omega (arith, w.few))
+        (few_ended k (λ q h. omega (arith, begun_ended t q, w.fewest q h))))
         (cases_lt n k)

@@ -9,7 +9,7 @@ ghost use Rattle.line_rows.specs.Steps.{NextStart};
 pub fn byte_at(text: &[u8], place: usize) -> u8
     ensures { result ≡ slice_index text.now place }
 {
-    if place < text.len() { text[place] } else { 0 }
+    text.get(place).copied().unwrap_or(0)
 }
 
 // Whether two bytes stand at a place.
@@ -32,10 +32,10 @@ pub fn separator_at(text: &[u8], place: usize) -> bool
 pub fn is_char_start(text: &[u8], place: usize) -> bool
     ensures { result ≡ char_start text.now place }
 {
-    if place >= text.len() {
-        return place == 0 || place == text.len();
+    match text.get(place) {
+        Some(byte) => place == 0 || !matches!(*byte, 0x80..=0xBF),
+        None => place == text.len(),
     }
-    place == 0 || text[place] < 0x80 || text[place] > 0xBF
 }
 
 // The first char start from a place on.
@@ -43,10 +43,7 @@ pub fn next_char_start(text: &[u8], from: usize) -> usize
     requires { from ≤ length text.now }
     ensures { NextStart text.now from result }
 {
-    for place in from..text.len() {
-        if is_char_start(text, place) {
-            return place;
-        }
-    }
-    text.len()
+    (from..text.len())
+        .find(|place| is_char_start(text, *place))
+        .unwrap_or(text.len())
 }

@@ -72,7 +72,8 @@ fn separators_from<K: ByteChunk>(text: &[u8], place: usize, row: K) -> K
 
 // The counts without the CR of each CR LF, which counts at its LF.
 fn without_crlf<K: ByteChunk>(text: &[u8], place: usize, row: K, counts: K) -> K
-    requires { (RowAt text.now place K.SIZE (K.lanes row)) × (((i : ℕ) → i < K.SIZE → flag (begins_at cr_lf text.now (place + i)) ≤ slice_index (K.lanes counts) i)) }
+    requires at { RowAt text.now place K.SIZE (K.lanes row) }
+    requires room { (i : ℕ) → i < K.SIZE → flag (begins_at cr_lf text.now (place + i)) ≤ slice_index (K.lanes counts) i }
     ensures { (i : ℕ) → i < K.SIZE → slice_index (K.lanes result) i ≡ slice_index (K.lanes counts) i - flag (begins_at cr_lf text.now (place + i)) }
 {
     let first = row.cmp_eq_byte(CR);

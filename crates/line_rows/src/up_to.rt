@@ -5,7 +5,7 @@ ghost use Rattle.line_rows.specs.Begins.{break_counts};
 ghost use Rattle.line_rows.specs.Passing.{Passed};
 
 use crate::near::byte_at;
-use measures::near::{CR, FF, LF, VT};
+use measures::near::{CR, FF, LF, VT, byte_back};
 
 // Whether a break counts at a byte: its first one, or the LF of CR LF.
 fn break_counts(bytes: &[u8], place: usize) -> bool
@@ -41,8 +41,5 @@ pub fn count_breaks_up_to(bytes: &[u8], max_bytes: usize, max_breaks: usize) -> 
 pub fn is_not_crlf_middle(byte_idx: usize, text: &[u8]) -> bool
     ensures { result ≡ not (in_crlf text.now byte_idx) }
 {
-    if byte_idx == 0 || byte_idx >= text.len() {
-        return true;
-    }
-    text[byte_idx - 1] != CR || text[byte_idx] != LF
+    byte_back(text, 1, byte_idx) != CR || byte_back(text, 0, byte_idx) != LF
 }

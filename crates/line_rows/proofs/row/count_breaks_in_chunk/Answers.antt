@@ -31,7 +31,7 @@ summed g c =
     _ _ (met.row c.add-long.result) (met.row c.bytes_between_127-low.result) c.add-long.ensures c.bytes_between_127-low.ensures _ c.add.ensures
 
 pub without_crlf-requires : goal.without_crlf-requires
-without_crlf-requires g c = (loaded g (goal.at.without_crlf-requires g c).After-load-row, summed_above (summed g (goal.at.without_crlf-requires g c).After-add))
+without_crlf-requires g c = record { at = loaded g (goal.at.without_crlf-requires g c).After-load-row; room = summed_above (summed g (goal.at.without_crlf-requires g c).After-add) }
 
 pub returns : goal.returns
 returns g c = summed_marks (summed g (goal.at.returns g c).After-add) _ (g.met.K.ByteChunk.row c.without_crlf.result) c.without_crlf.ensures
