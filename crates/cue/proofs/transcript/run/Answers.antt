@@ -1,6 +1,6 @@
 use Rattle.std.proofs.Common.{string_bytes}
 use Rattle.std.proofs.lemmas.Result.{err_from_is_err_and}
-use Rattle.cue.proofs.Playing.{refused_first, ran}
+use Rattle.cue.proofs.Playing.{refused_first}
 use Rattle.cue.proofs.transcript.run.Goals as goal
 
 pub returns-in_err-text : goal.returns-in_err-text
