@@ -1,11 +1,13 @@
 // The measure of chars: each char is a cell of weight 1.
 ghost use Rattle.std.specs.Prelude.{◌≡◌};
+ghost use Rattle.utf8.specs.Places.{follower};
 ghost use Rattle.measures.specs.Chars.{char_ends, char_weight};
 ghost use Rattle.measures.specs.CharCells.{CharCells};
 ghost use Rattle.measures.specs.Counts.{leads, in_char};
 ghost use Rattle.measures.specs.Charring.{char_lawful};
 ghost use Rattle.measures.specs.Once.{chars_linked};
 
+use crate::rows::masked;
 use cells::Measure;
 use chunk::ByteChunk;
 use counted::{Counted, sum};
@@ -19,24 +21,28 @@ pub struct Chars;
 pub fn char_ends(text: Checked<'_>, place: usize) -> bool
     ensures { result ≡ char_ends text.entry.bytes.now place }
 {
-    let bytes = text.bytes();
-    if place == 0 || place > bytes.len() {
-        return false;
+    match text.bytes().get(place) {
+        Some(byte) => place > 0 && !is_follower(*byte),
+        None => place > 0 && place == text.len(),
     }
-    place == bytes.len() || bytes[place] < 0x80 || bytes[place] > 0xBF
+}
+
+// Whether a byte goes on with a char that another began.
+fn is_follower(byte: u8) -> bool
+    ensures { result ≡ follower byte }
+{
+    byte >= 0x80 && byte <= 0xBF
 }
 
 impl Scan for Chars {
     ghost hit = { leads };
 
     fn single(_far: u8, _near: u8, byte: u8) -> bool {
-        byte < 0x80 || byte > 0xBF
+        !is_follower(byte)
     }
 
     fn flags<K: ByteChunk>(_far: K, _near: K, row: K) -> K {
-        let tops = row.bitand(K::splat(0xC0));
-        let trailing = tops.cmp_eq_byte(0x80);
-        K::splat(1).sub(trailing)
+        K::splat(1).sub(masked(row, 0xC0, 0x80))
     }
 }
 
@@ -52,7 +58,7 @@ impl Counted for Chars {
     ghost linked = { chars_linked };
 
     fn splits(_near: u8, byte: u8) -> bool {
-        byte >= 0x80 && byte <= 0xBF
+        is_follower(byte)
     }
 }
 
@@ -77,6 +83,7 @@ impl Measure for Chars {
 }
 
 // The cells of chars and of UTF-16 units are the chars of the grammar.
+#[tactic(auto, using(crate::specs::Charring::char_cells))]
 pub fn cells_are_chars() -> u8
     ensures { CharCells }
 {

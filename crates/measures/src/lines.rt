@@ -1,43 +1,32 @@
-// The measure of lines as Unicode breaks them: after LF, VT, FF, CR, CR LF, NEL, LS and PS.
+// Lines as Unicode breaks them: after LF, VT, FF, CR, CR LF, NEL, LS and PS.
 ghost use Rattle.std.specs.Prelude.{◌≡◌, refl};
-ghost use Rattle.measures.specs.Breaks.{unicode_breaks, broken, line_ends, line_weight, break_length};
-ghost use Rattle.measures.specs.Counts.{unicode_hit, in_break};
-ghost use Rattle.measures.specs.Lining.{line_lawful, line_breaks};
+ghost use Rattle.scan.specs.Marks.{mark, zip3};
+ghost use Rattle.measures.specs.Breaks.{unicode_breaks};
+ghost use Rattle.measures.specs.Counts.{unicode_hit, separator, in_break};
 ghost use Rattle.measures.specs.Once.{unicode_linked};
 
-use crate::near::{CR, FF, LF, VT, byte_back, crlf_before};
-use cells::{LineMeasure, Measure};
+use crate::breaks::{Breaks, Lined};
+use crate::near::{CR, FF, LF, VT, byte_back, crlf_before, in_crlf};
+use crate::rows::{masked, pairs};
 use chunk::ByteChunk;
-use counted::{Counted, sum};
 use scan::Scan;
 use utf8::Checked;
 
+// The breaks of Unicode.
 #[derive(Clone, Copy)]
-pub struct Lines;
+pub struct Unicode;
 
-// Whether a break ends at a place; none ends between CR and LF.
-pub fn break_ends(text: Checked<'_>, place: usize) -> bool
-    ensures { result ≡ broken unicode_breaks text.entry.bytes.now place }
+pub type Lines = Lined<Unicode>;
+
+// 1 at the last byte of each LS and PS, 0 at any other byte.
+#[tactic(auto, using(crate::proofs::Flags::separators_row))]
+fn separators<K: ByteChunk>(far: K, near: K, row: K) -> K
+    ensures { K.ByteChunk.lanes result ≡ zip3 (mark separator) (K.ByteChunk.lanes far) (K.ByteChunk.lanes near) (K.ByteChunk.lanes row) }
 {
-    let bytes = text.bytes();
-    let before = byte_back(bytes, 1, place);
-    if before == LF || before == VT || before == FF {
-        return true;
-    }
-    if before == CR {
-        return byte_back(bytes, 0, place) != LF;
-    }
-    let second = byte_back(bytes, 2, place);
-    if before == 0x85 {
-        return second == 0xC2;
-    }
-    if before == 0xA8 || before == 0xA9 {
-        return second == 0x80 && byte_back(bytes, 3, place) == 0xE2;
-    }
-    false
+    pairs(far, 0xE2, near, 0x80).bitand(masked(row, 0xFE, 0xA8))
 }
 
-impl Scan for Lines {
+impl Scan for Unicode {
     ghost hit = { unicode_hit };
 
     fn single(far: u8, near: u8, byte: u8) -> bool {
@@ -47,76 +36,47 @@ impl Scan for Lines {
     }
 
     fn flags<K: ByteChunk>(far: K, near: K, row: K) -> K {
-        let low = row.bytes_between_127(0x09, 0x0E);
-        let cr = near.cmp_eq_byte(CR);
-        let lf = row.cmp_eq_byte(LF);
-        let second = cr.bitand(lf);
-        let c2 = near.cmp_eq_byte(0xC2);
-        let nel = row.cmp_eq_byte(0x85);
-        let next = c2.bitand(nel);
-        let e2 = far.cmp_eq_byte(0xE2);
-        let eighty = near.cmp_eq_byte(0x80);
-        let first = e2.bitand(eighty);
-        let pairs = row.bitand(K::splat(0xFE));
-        let last = pairs.cmp_eq_byte(0xA8);
-        let separators = first.bitand(last);
-        low.sub(second).add(next).add(separators)
+        row.bytes_between_127(0x09, 0x0E)
+            .sub(pairs(near, CR, row, LF))
+            .add(pairs(near, 0xC2, row, 0x85))
+            .add(separators(far, near, row))
     }
 }
 
-impl Counted for Lines {
-    ghost ends = { line_ends unicode_breaks };
-
-    ghost weight = { line_weight unicode_breaks };
+impl Breaks for Unicode {
+    ghost table = { unicode_breaks };
 
     ghost split = { in_break };
 
-    ghost lawful = { line_lawful unicode_breaks refl };
+    ghost proper = { refl };
+
+    ghost whole = { refl };
 
     ghost linked = { unicode_linked };
 
-    fn splits(near: u8, byte: u8) -> bool {
-        near == CR && byte == LF
-    }
-}
-
-impl Measure for Lines {
-    ghost ends = { line_ends unicode_breaks };
-
-    ghost weight = { line_weight unicode_breaks };
-
-    ghost lawful = { line_lawful unicode_breaks refl };
-
-    fn ends_at(&self, text: Checked<'_>, place: usize) -> bool {
-        break_ends(text, place) || place > 0 && place == text.len()
-    }
-
-    fn weight_at(&self, text: Checked<'_>, place: usize) -> usize {
-        break_ends(text, place) as usize
-    }
-
-    fn sum<K: ByteChunk>(&self, text: Checked<'_>, a: usize, b: usize, head: usize) -> usize {
-        sum::<Lines, K>(text, a, b, head)
-    }
-}
-
-impl LineMeasure for Lines {
-    ghost break_length = { break_length unicode_breaks };
-
-    ghost breaks = { line_breaks unicode_breaks refl refl };
-
-    fn break_length_at(&self, text: Checked<'_>, place: usize) -> usize {
-        if !break_ends(text, place) {
-            return 0;
+    fn break_ends(text: Checked<'_>, place: usize) -> bool {
+        let bytes = text.bytes();
+        match byte_back(bytes, 1, place) {
+            CR => byte_back(bytes, 0, place) != LF,
+            0x85 => byte_back(bytes, 2, place) == 0xC2,
+            0xA8 | 0xA9 => byte_back(bytes, 2, place) == 0x80 && byte_back(bytes, 3, place) == 0xE2,
+            before => before == LF || before == VT || before == FF,
         }
+    }
+
+    fn length_at(text: Checked<'_>, place: usize) -> usize {
         let bytes = text.bytes();
         if crlf_before(bytes, place) {
             return 2;
         }
-        let before = byte_back(bytes, 1, place);
-        if before < 0x80 {
-            return 1;
+        match byte_back(bytes, 1, place) {
+            ..0x80 => 1,
+            0x85 => 2,
+            _ => 3,
         }
-        if before == 0x85 { 2 } else { 3 }
+    }
+
+    fn splits(near: u8, byte: u8) -> bool {
+        in_crlf(near, byte)
     }
 }

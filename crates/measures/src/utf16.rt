@@ -7,6 +7,7 @@ ghost use Rattle.measures.specs.Charring.{unit_lawful};
 
 use crate::chars::{Chars, char_ends};
 use crate::near::byte_back;
+use crate::rows::masked;
 use cells::Measure;
 use chunk::ByteChunk;
 use counted::sum;
@@ -27,14 +28,15 @@ impl Scan for Surrogates {
         byte >= 0xF0
     }
 
+    #[tactic(auto, using(crate::proofs::Flags::fours_row))]
     fn flags<K: ByteChunk>(_far: K, _near: K, row: K) -> K {
-        let tops = row.bitand(K::splat(0xF0));
-        tops.cmp_eq_byte(0xF0)
+        masked(row, 0xF0, 0xF0)
     }
 }
 
 // The number of chars of four bytes that end after place a and at or before place b: each is counted at its first byte,
 // so that the last three bytes before b, where a cut text may hold a part of one, are left out.
+#[tactic(auto, using(crate::proofs::Pairs::pairs_none, crate::proofs::Pairs::pairs_sum, utf8::proofs::Means::text_from_test))]
 pub fn sum_surrogates<K: ByteChunk>(text: Checked<'_>, a: usize, b: usize, head: usize) -> usize
     ensures { result ≡ index pair_weight text.entry.bytes.now b - index pair_weight text.entry.bytes.now a }
 {
@@ -69,6 +71,7 @@ impl Measure for Utf16 {
         }
     }
 
+    #[tactic(auto, using(crate::proofs::Pairs::units_sum, crate::proofs::Pairs::chars_most, crate::proofs::Pairs::pairs_most, utf8::proofs::Means::text_from_test))]
     fn sum<K: ByteChunk>(&self, text: Checked<'_>, a: usize, b: usize, head: usize) -> usize {
         sum::<Chars, K>(text, a, b, head) + sum_surrogates::<K>(text, a, b, head)
     }
