@@ -5,10 +5,11 @@ use cells::walk::{count, index, start};
 use chunk::ByteChunk;
 use faults::count::Fault;
 use lanes::Lanes16;
+use measures::breaks::Lined;
 use measures::chars::Chars;
-use measures::lines::Lines;
-use measures::lines_crlf::LinesCrlf;
-use measures::lines_lf::LinesLf;
+use measures::lines::Unicode;
+use measures::lines_crlf::CrLf;
+use measures::lines_lf::Lf;
 use measures::utf16::Utf16;
 use std::str::FromStr;
 use str_indices::{chars, lines, lines_crlf, lines_lf, utf16};
@@ -133,9 +134,9 @@ impl Ask {
         match self.module {
             Module::Chars => self.by_measure(&Chars, text),
             Module::Utf16 => self.by_measure(&Utf16, text),
-            Module::Lines => self.by_measure(&Lines, text),
-            Module::LinesCrlf => self.by_measure(&LinesCrlf, text),
-            Module::LinesLf => self.by_measure(&LinesLf, text),
+            Module::Lines => self.by_measure(&Lined(Unicode), text),
+            Module::LinesCrlf => self.by_measure(&Lined(CrLf), text),
+            Module::LinesLf => self.by_measure(&Lined(Lf), text),
         }
     }
 }
