@@ -92,7 +92,9 @@ impl<'a, C: Counted> Way<'a, C> {
         (left.min(need) / K::SIZE).min(K::MAX_ACC).max(least)
     }
 
-    // Goes over whole rows, at least so many at once, as long as fewer than k are counted.
+    // Goes over whole rows, at least so many at once, as long as fewer than k are counted. Inlined, so that the way of a
+    // short call stays in registers.
+    #[inline(always)]
     fn skip<K: ByteChunk>(self, least: usize) -> Self
         requires some { 0 < least }
         requires few { least ≤ 4 }
