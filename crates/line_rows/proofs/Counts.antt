@@ -2,16 +2,13 @@
 use Rattle.std.proofs.Common.{◌≡◌, ℕ, zero, suc, ◌+◌, ◌<◌, ◌≤◌, Bool, true, false, List, refl, ap, ◌∙◌, ⊎_elim, arith, below_none, below_more}
 use mir.Val.{bool_byte}
 use Rattle.std.proofs.lemmas.Bool.{cases_lt}
+use Rattle.chunk.proofs.Rows.{flag_byte}
 use Rattle.line_rows.specs.Begins.{break_counts, flag, breaks_in}
 use Rattle.line_rows.specs.Passing.{Counted}
 
 pub flag_small : (b : Bool) → flag b ≤ 1
 flag_small true = omega arith
 flag_small false = omega arith
-
-flag_byte : (b : Bool) → bool_byte b ≡ flag b
-flag_byte true = refl
-flag_byte false = refl
 
 module _ (t : List ℕ) where
   pub breaks_next : (p : ℕ) → breaks_in t (p + 1) ≡ breaks_in t p + flag (break_counts t p)

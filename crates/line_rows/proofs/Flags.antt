@@ -2,6 +2,7 @@
 use Rattle.std.proofs.Common.{◌≡◌, ℕ, zero, suc, ◌+◌, ◌/◌, ◌%◌, ◌<◌, Bool, true, false, ◌&&◌, eqb, List, [], ◌∷◌, ◌++◌, map, length, get_or, drop, replicate, sym, refl, ap, ◌∙◌, arith}
 use lib.Lanes.{zip2}
 use lib.Bits.{bit_and, and_mask}
+use Rattle.std.proofs.Math.ListN.{get_or-map}
 use Rattle.std.proofs.lemmas.Simd.{zip2_splat}
 use Rattle.std.proofs.lemmas.List.{get_or-drop}
 use Rattle.std.proofs.lemmas.Bool.{ne_eqb}
@@ -25,9 +26,7 @@ halves_row w low row l e = zip2_splat bit_and low w 127 l ∙ mask_map low ∙ e
 -- ---- a lane of what a step makes; past the row all is 0
 
 pub at_map : (f : ℕ → ℕ) → f 0 ≡ 0 → (xs : List ℕ) (i : ℕ) → get_or (map f xs) i 0 ≡ f (get_or xs i 0)
-at_map f z [] i = sym z
-at_map f z (x ∷ xs) zero = refl
-at_map f z (x ∷ xs) (suc i) = at_map f z xs i
+at_map f z xs i = ap (get_or (map f xs) i) (sym z) ∙ get_or-map f xs i 0
 
 pub at_zip : (f : ℕ → ℕ → ℕ) → f 0 0 ≡ 0 → (xs ys : List ℕ) → length xs ≡ length ys → (i : ℕ) → get_or (zip2 f xs ys) i 0 ≡ f (get_or xs i 0) (get_or ys i 0)
 at_zip f z [] [] l i = sym z

@@ -19,7 +19,7 @@ pub fn from_byte_idx_impl<K: ByteChunk>(text: Checked<'_>, byte_idx: usize, head
 {
     let bytes = text.bytes();
     let i = byte_idx.min(bytes.len());
-    let count = count_breaks_impl::<K>(&bytes[0..i], head);
+    let count = count_breaks_impl::<K>(&bytes[..i], head);
     if is_not_crlf_middle(i, bytes) {
         count
     } else {

@@ -11,7 +11,3 @@ overflow_add-count g c =
     let e = rows_more c.args.text.now c.args.from g.K.ByteChunk.SIZE c.loop-first.first c.min-round.result (c.loop-first.first + c.min-round.result) c.loop-first.count c.count_rows-count.result c.loop-first.invariant.1 (rw c.SIZE.ensures at c.count_rows-count.ensures) refl in
     let le : c.loop-first.first + c.min-round.result ≤ c.args.rows = omega arith in
     grind (arith, e, mul-le-mul_right g.K.ByteChunk.SIZE le, breaks_below c.args.text.now (c.args.from + (c.loop-first.first + c.min-round.result) * g.K.ByteChunk.SIZE))
-
-pub loop-first-preserved : goal.loop-first-preserved
-loop-first-preserved g c =
-    (omega arith, rows_more c.args.text.now c.args.from g.K.ByteChunk.SIZE c.loop-first.first c.min-round.result (c.loop-first.first + c.MAX_ACC-first-step.result) c.loop-first.count c.count_rows-count.result c.loop-first.invariant.1 (rw c.SIZE.ensures at c.count_rows-count.ensures) (omega arith))

@@ -1,4 +1,4 @@
-use Rattle.std.proofs.Common.{◌≡◌, sym, ◌∙◌, arith}
+use Rattle.std.proofs.Common.{sym, ◌∙◌, arith}
 use Rattle.line_rows.proofs.Rounds.{each_below, added_none, added_fits, added_more}
 use Rattle.line_rows.proofs.routes.count_rows.Goals as goal
 
@@ -16,8 +16,3 @@ loop-row-preserved g c =
 
 pub sum_bytes-requires : goal.sum_bytes-requires
 sum_bytes-requires g c = each_below c.loop-row.row g.K.ByteChunk.MAX_ACC _ (omega (arith, c.requires.few)) c.loop-row.invariant.small
-
-pub returns : goal.returns
-returns g c =
-    let end : c.loop-row.row ≡ c.args.rows = omega arith in
-    let e = rw end at c.loop-row.invariant.right in cc

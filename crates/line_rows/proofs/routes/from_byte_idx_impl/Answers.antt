@@ -1,7 +1,7 @@
-use Rattle.std.proofs.Common.{◌≡◌, ℕ, ◌+◌, ◌-◌, List, take, sym, ap, ◌∙◌, arith}
+use Rattle.std.proofs.Common.{◌≡◌, ◌+◌, sym, ap, arith}
 use Rattle.std.proofs.lemmas.Bool.{not-true, not-false}
 use Rattle.utf8.proofs.Means.{text_from_test}
-use Rattle.cells.specs.Cells.{index, count}
+use Rattle.cells.specs.Cells.{index}
 use Rattle.measures.specs.Breaks.{unicode_breaks, in_crlf, line_weight}
 use Rattle.line_rows.specs.Begins.{flag}
 use Rattle.line_rows.proofs.Front.{front_count, index_min}
@@ -14,12 +14,9 @@ counted : (g : given.Over) (c : After-count_breaks_impl-count g)
     → c.count_breaks_impl-count.result ≡ index (line_weight unicode_breaks) c.args.text.bytes.now c.args.byte_idx + flag (in_crlf c.bytes-bytes.result.now c.min-i.result)
 counted g c =
     let t = c.bytes-bytes.result.now in
-    let n : c.min-i.result - 0 ≡ c.min-i.result = omega arith in
-    let i : index (line_weight unicode_breaks) c.bytes-bytes.result.now c.min-i.result ≡ index (line_weight unicode_breaks) c.args.text.bytes.now c.args.byte_idx =
-    ap (index (line_weight unicode_breaks) t) c.min-i.ensures ∙ index_min t (text_from_test _ c.bytes-bytes.ensures.sound) c.args.byte_idx
-    ∙ ap (λ (u : List ℕ). index (line_weight unicode_breaks) u c.args.byte_idx) c.bytes-bytes.ensures.value in
-    c.count_breaks_impl-count.ensures ∙ ap (λ (k : ℕ). count (line_weight unicode_breaks) (take k c.bytes-bytes.result.now)) n ∙ front_count t c.min-i.result (omega (arith, c.min-i.ensures))
-    ∙ ap (λ (k : ℕ). k + flag (in_crlf c.bytes-bytes.result.now c.min-i.result)) i
+    let front = front_count t c.min-i.result (omega (arith, c.min-i.ensures)) in
+    let clipped = index_min t (text_from_test _ c.bytes-bytes.ensures.sound) c.args.byte_idx in
+    cc
 
 pub overflow_sub-result : goal.overflow_sub-result
 overflow_sub-result g c = omega (arith, counted g (goal.at.overflow_sub-result g c).After-count_breaks_impl-count, ap flag (not-false _ (sym c.if-is_not_crlf_middle.ensures)))

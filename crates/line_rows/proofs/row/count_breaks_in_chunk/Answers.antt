@@ -7,12 +7,6 @@ use Rattle.line_rows.proofs.row.count_breaks_in_chunk.Goals.{After-load-row, Aft
 loaded : (g : given.Over) (c : After-load-row g) → RowAt c.args.text.now c.args.place g.K.ByteChunk.SIZE (g.K.ByteChunk.lanes c.load-row.result)
 loaded g c = record { fits = c.requires; is = c.load-row.ensures }
 
-pub next_lines-requires : goal.next_lines-requires
-next_lines-requires g c = loaded g (goal.at.next_lines-requires g c).After-load-row
-
-pub separators_from-requires : goal.separators_from-requires
-separators_from-requires g c = loaded g (goal.at.separators_from-requires g c).After-load-row
-
 pub add-long-requires : goal.add-long-requires
 add-long-requires g c =
     let met = g.met.K.ByteChunk in

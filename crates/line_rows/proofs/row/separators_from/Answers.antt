@@ -3,8 +3,8 @@ use Rattle.std.proofs.lemmas.Bool.{cases_eq, or_from, and_left}
 use Rattle.std.proofs.lemmas.Bool.Decides.{nat_tests}
 use Rattle.line_rows.specs.Begins.{some_begins}
 use Rattle.line_rows.specs.Marks.{separators}
-use Rattle.line_rows.proofs.Flags.{is_flags, down}
-use Rattle.line_rows.proofs.Edges.{Within, separators_reach, within, no_byte, none_behind, room_behind, nth_behind}
+use Rattle.line_rows.proofs.Flags.{down}
+use Rattle.line_rows.proofs.Edges.{Within, separators_reach, within, no_byte, none_behind, nth_behind}
 use Rattle.line_rows.proofs.row.separators_from.Given as given
 use Rattle.line_rows.proofs.row.separators_from.Goals as goal
 use Rattle.line_rows.proofs.row.separators_from.Goals.{After-separators_within-found}
@@ -29,22 +29,11 @@ returns-then-is_zero g c =
     let z = sym c.if-is_zero.ensures in
     λ i l. down _ z i _ (no_first c.args.text.now (c.args.place + i) (no_byte c.requires 226 _ (omega arith) c.cmp_eq_byte-first.ensures z i l))
 
-pub separators_within-found-requires : goal.separators_within-found-requires
-separators_within-found-requires g c = is_flags 226 _ _ (omega arith) c.cmp_eq_byte-first.ensures
-
-pub inc_nth_from_end_lex_byte-requires : goal.inc_nth_from_end_lex_byte-requires
-inc_nth_from_end_lex_byte-requires g c =
-    room_behind (found g (goal.at.inc_nth_from_end_lex_byte-requires g c).After-separators_within-found) 1 (omega arith) (omega (arith, g.met.K.ByteChunk.wide))
-
 pub returns-then-separator_at : goal.returns-then-separator_at
 returns-then-separator_at g c =
     let here = sym c.if-separator_at.ensures in
     nth_behind (found g (goal.at.returns-then-separator_at g c).After-separators_within-found) 1 c.SIZE.result _ c.SIZE.ensures (g.met.K.ByteChunk.row c.separators_within-found.result) (omega arith) (omega (arith, g.met.K.ByteChunk.wide))
     here (λ i l k q. apart c.args.text.now (c.args.place + c.SIZE.result - 2) (c.args.place + i) (omega (arith, c.SIZE.ensures, g.met.K.ByteChunk.wide)) here) c.inc_nth_from_end_lex_byte.ensures
-
-pub inc_nth_from_end_lex_byte-requires-then-separator_at-2 : goal.inc_nth_from_end_lex_byte-requires-then-separator_at-2
-inc_nth_from_end_lex_byte-requires-then-separator_at-2 g c =
-    room_behind (found g (goal.at.inc_nth_from_end_lex_byte-requires-then-separator_at-2 g c).After-separators_within-found) 0 (omega arith) (omega (arith, g.met.K.ByteChunk.wide))
 
 pub returns-then-separator_at-2 : goal.returns-then-separator_at-2
 returns-then-separator_at-2 g c =
