@@ -29,11 +29,7 @@ impl Word {
     pub fn lane(self, place: usize) -> u8
         ensures { result ≡ slice_index (bytes_of 8 self.bits) place }
     {
-        if place < SIZE {
-            ((self.bits >> (place * 8)) & 0xff) as u8
-        } else {
-            0
-        }
+        self.bits.to_le_bytes().get(place).copied().unwrap_or(0)
     }
 }
 
@@ -80,12 +76,9 @@ impl ByteChunk for Word {
     }
 
     fn shift_back_lex(self, n: usize) -> Word {
-        // A shift by every bit of the number is no shift.
-        if n == SIZE {
-            return Self::zero();
-        }
+        // A shift by every bit of the number leaves none.
         Word {
-            bits: self.bits >> (n * 8),
+            bits: self.bits.unbounded_shr(n as u32 * 8),
         }
     }
 

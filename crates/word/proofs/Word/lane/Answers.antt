@@ -1,11 +1,8 @@
-use Rattle.std.proofs.Common.{sym}
-use Rattle.chunk.proofs.Digits.{bytes_row}
-use Rattle.chunk.proofs.Moves.{bytes_lane}
-use Rattle.chunk.proofs.Rows.{past_at}
+use Rattle.std.proofs.Common.{rules, ◌≡◌, get_or, ap, ◌∙◌}
+use Rattle.word.proofs.Eight.{eight_bytes}
 use Rattle.word.proofs.Word.lane.Goals as goal
 
-pub returns-then-place-lt-SIZE : goal.returns-then-place-lt-SIZE
-returns-then-place-lt-SIZE c = bytes_lane 8 c.args.place c.args.self.bits c.if-place-lt-SIZE.true
-
-pub returns-else-place-lt-SIZE : goal.returns-else-place-lt-SIZE
-returns-else-place-lt-SIZE c = sym (past_at (bytes_row 8 c.args.self.bits) c.if-place-lt-SIZE.false)
+pub returns : goal.returns
+returns c =
+    let lane : c.unwrap_or.result ≡ get_or c.to_le_bytes.result c.args.place 0 = search rules in
+    lane ∙ ap (λ bytes. get_or bytes c.args.place 0) (c.to_le_bytes.ensures ∙ eight_bytes c.args.self.bits)
