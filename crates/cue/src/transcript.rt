@@ -51,6 +51,7 @@ fn play(out: &mut String, text: Checked<'_>, cues: &[u8]) -> Result<(), Stop>
 {
     let mut at = 0;
     let mut number = 0;
+    // no iterator: it would keep the place besides, and that a refused record ended it
     while let Some(record) = record_at(cues, at)? {
         number += 1;
         let place = place_of(text, record.cue)?;

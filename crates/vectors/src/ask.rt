@@ -1,5 +1,5 @@
 // What a case asks of a text: its count, the index of a place or the start of an index, by one of the five modules.
-use anyhow::anyhow;
+use anyhow::{anyhow, ensure};
 use cells::Measure;
 use cells::walk::{count, index, start};
 use chunk::ByteChunk;
@@ -116,13 +116,11 @@ impl Ask {
             Question::Count => Ok(count(measure, text)),
             Question::Index => {
                 let answer = index(measure, text, self.at);
-                for head in 0..20 {
-                    if measure.sum::<Word>(text, 0, self.at, head) != answer
-                        || measure.sum::<Lanes16>(text, 0, self.at, head) != answer
-                    {
-                        return Err(anyhow!("a sum differs"));
-                    }
-                }
+                let agree = (0..20).all(|head| {
+                    measure.sum::<Word>(text, 0, self.at, head) == answer
+                        && measure.sum::<Lanes16>(text, 0, self.at, head) == answer
+                });
+                ensure!(agree, "a sum differs");
                 Ok(answer)
             }
             Question::Start => Ok(start(measure, text, self.at)),
