@@ -28,6 +28,7 @@ pub fn count_breaks_up_to(bytes: &[u8], max_bytes: usize, max_breaks: usize) -> 
 {
     let limit = max_bytes.min(bytes.len());
     let mut count = 0;
+    // by place, not by byte: a break shows in the two bytes after its first, too
     for place in 0..limit {
         if count == max_breaks {
             return (count, place);
