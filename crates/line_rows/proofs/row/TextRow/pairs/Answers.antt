@@ -1,21 +1,20 @@
-use Rattle.std.proofs.Common.{sym, arith}
+use Rattle.std.proofs.Common.{[], ◌∷◌, sym, arith}
 use Rattle.std.proofs.lemmas.Bool.{and_left}
 use Rattle.line_rows.specs.Begins.{begins_at}
-use Rattle.line_rows.specs.Marks.{next_line}
 use Rattle.line_rows.proofs.Flags.{down}
 use Rattle.line_rows.proofs.Edges.{Within, pairs_within, no_byte, room_behind, nth_behind, last_none}
-use Rattle.line_rows.proofs.row.next_lines.Given as given
-use Rattle.line_rows.proofs.row.next_lines.Goals as goal
-use Rattle.line_rows.proofs.row.next_lines.Goals.{After-followed_by-found}
+use Rattle.line_rows.proofs.row.TextRow.pairs.Given as given
+use Rattle.line_rows.proofs.row.TextRow.pairs.Goals as goal
+use Rattle.line_rows.proofs.row.TextRow.pairs.Goals.{After-followed_by-found}
 
 -- but for the last lane, what is found is right
-found : (g : given.Over) (c : After-followed_by-found g) → Within (begins_at next_line c.args.text.now) c.args.place g.K.ByteChunk.SIZE 1 (g.K.ByteChunk.lanes c.followed_by-found.result)
-found g c = pairs_within c.requires 194 133 _ _ (omega arith) (omega arith) c.cmp_eq_byte-first.ensures c.followed_by-found.ensures
+found : (g : given.Over) (c : After-followed_by-found g) → Within (begins_at (c.args.first ∷ c.args.second ∷ []) c.args.self.now.text.now) c.args.self.now.place g.K.ByteChunk.SIZE 1 (g.K.ByteChunk.lanes c.followed_by-found.result)
+found g c = pairs_within c.args.self.now.at c.args.first c.args.second _ _ c.requires.first c.requires.second c.cmp_eq_byte-flags.ensures c.followed_by-found.ensures
 
 pub returns-then-is_zero : goal.returns-then-is_zero
 returns-then-is_zero g c =
     let z = sym c.if-is_zero.ensures in
-    λ i l. down _ z i _ (and_left _ _ (no_byte c.requires 194 _ (omega arith) c.cmp_eq_byte-first.ensures z i l))
+    λ i l. down _ z i _ (and_left _ _ (no_byte c.args.self.now.at c.args.first _ c.requires.first c.cmp_eq_byte-flags.ensures z i l))
 
 pub inc_nth_from_end_lex_byte-requires : goal.inc_nth_from_end_lex_byte-requires
 inc_nth_from_end_lex_byte-requires g c =
