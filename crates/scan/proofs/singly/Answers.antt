@@ -9,8 +9,8 @@ loop-byte-init g c =
     let z : c.args.from ≡ c.args.from + 0 = omega arith in
     record {
       right = refl;
-      second = c.before_two-far.ensures ∙ ap (λ (k : ℕ). get_or (0 ∷ 0 ∷ c.args.text.now) k 0) z;
-      first = c.before-near.ensures ∙ ap (λ (k : ℕ). get_or (0 ∷ c.args.text.now) k 0) z;
+      second = c.byte_before-far.ensures ∙ ap (λ (k : ℕ). get_or (0 ∷ 0 ∷ c.args.text.now) k 0) z;
+      first = c.byte_before-near.ensures ∙ ap (λ (k : ℕ). get_or (0 ∷ c.args.text.now) k 0) z;
     }
 
 -- the byte of a turn, as one of the whole text
