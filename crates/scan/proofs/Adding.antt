@@ -1,12 +1,12 @@
 -- One more row in a round. Assumes nothing.
-use Rattle.std.proofs.Common.{◌≡◌, ℕ, zero, suc, ◌+◌, ◌-◌, ◌*◌, ◌<◌, ◌≤◌, List, [], ◌∷◌, length, get_or, take, replicate, sym, refl, ap, ◌∙◌, subst, ◌/◌, mul-le-mul_right, div-mul-le_self, min, add-mul, zero-mul, arith}
+use Rattle.std.proofs.Common.{◌≡◌, ℕ, zero, suc, ◌+◌, ◌-◌, ◌*◌, ◌<◌, ◌≤◌, List, [], ◌∷◌, length, get_or, take, replicate, sym, refl, ap, ◌∙◌, subst, mul-le-mul_right, add-mul, zero-mul, arith}
 use lib.ListN.{get_or-replicate}
 use lib.Lanes.{zip2, Each1, Each2, chunk, sum_l}
 use Rattle.std.proofs.lemmas.Simd.{sum-zip2}
 use Rattle.chunk.specs.Rows.{Row}
 use Rattle.scan.specs.Marks.{Rule, mark, marks, zip3, counted}
 use Rattle.scan.specs.Rounds.{Added}
-use Rattle.scan.proofs.Marking.{Ones, ones_marks, row_before, row_last, row_marks, counted_two, counted_most, counted_join}
+use Rattle.scan.proofs.Marking.{Ones, ones_marks, row_before, row_last, row_marks, counted_two}
 
 zeros_sum : (n : ℕ) → sum_l (replicate n 0) ≡ 0
 zeros_sum zero = refl
@@ -89,36 +89,3 @@ module _ {hit : Rule} {text : List ℕ} {w from i : ℕ} {sums older last : List
 -- there is room for each of n rows
 pub room_at : (from i n w len : ℕ) → i < n → from + n * w ≤ len → from + (i + 1) * w ≤ len
 room_at from i n w len h le = let up : i + 1 ≤ n = omega arith in omega (arith, mul-le-mul_right w up)
-
--- the count in some of the rows from a place on, and in n more of them
-pub rows_more : (hit : Rule) (text : List ℕ) (from w done n rows count more size : ℕ) → done ≤ rows → count ≡ counted hit text from (min done rows * w) → size ≡ w
-    → more ≡ counted hit text (from + done * size) (n * w) → count + more ≡ counted hit text from ((done + n) * w)
-rows_more hit text from w done n rows count more size le before same now =
-    let so_far : min done rows ≡ done = omega arith in
-    let first = before ∙ ap (λ k. counted hit text from (k * w)) so_far in
-    let second = now ∙ ap (λ k. counted hit text (from + done * k) (n * w)) same in
-    omega (arith, first, second, counted_two hit text from (done * w) (n * w), ap (counted hit text from) (add-mul done n w))
-
--- the count from a place to another: up to a start, in whole rows from there on, and in the rest
-module _ (hit : Rule) (text : List ℕ) (from start to a b w : ℕ) (order : from ≤ start) (within : start ≤ to) (div : a ≡ w) (mul : b ≡ w) {first whole : ℕ}
-    (fore : first ≡ counted hit text from (start - from)) (mid : whole ≡ counted hit text start ((to - start) / a * w)) where
-  times : (to - start) / a * a ≡ (to - start) / a * b
-  times = ap (λ n. (to - start) / a * n) (div ∙ sym mul)
-
-  rest_within : start + (to - start) / a * b ≤ to
-  rest_within = omega (arith, times, div-mul-le_self (to - start) a)
-
-  long : (to - start) / a * w ≡ start + (to - start) / a * b - start
-  long = omega (arith, ap (λ n. (to - start) / a * n) mul)
-
-  pub two_parts : first + whole ≡ counted hit text from (start + (to - start) / a * b - from)
-  two_parts = omega (arith, fore, mid, ap (counted hit text start) long, counted_join hit text from start (start + (to - start) / a * b) order (omega arith))
-
-  pub two_parts_fit : first + whole ≤ to - from
-  two_parts_fit = omega (arith, two_parts, rest_within, counted_most hit text from (start + (to - start) / a * b - from))
-
-  pub three_parts : {last : ℕ} → last ≡ counted hit text (start + (to - start) / a * b) (to - (start + (to - start) / a * b)) → first + whole + last ≡ counted hit text from (to - from)
-  three_parts end = omega (arith, two_parts, end, counted_join hit text from (start + (to - start) / a * b) to (omega arith) rest_within)
-
-  pub three_parts_fit : {last : ℕ} → last ≡ counted hit text (start + (to - start) / a * b) (to - (start + (to - start) / a * b)) → first + whole + last ≤ to - from
-  three_parts_fit end = omega (arith, three_parts end, counted_most hit text from (to - from))
