@@ -1,5 +1,4 @@
 pub mod Rows
-pub mod Loops
 pub mod Digits
 pub mod Moves
 pub mod Packed
