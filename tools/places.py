@@ -9,6 +9,7 @@ import re
 import subprocess
 import sys
 from collections import Counter, defaultdict
+from itertools import combinations
 
 
 def git(*args):
@@ -92,24 +93,25 @@ def main():
                 twins[shape(body)].append(where)
             for fact in set(re.findall(r"\b([A-Z]\w+(?=[ )])|is_text)", clauses)):
                 facts[(crate, fact)].add(where)
-            names = sorted(set(re.findall(r"\b(\w+): ", sig)) - {"self"})
-            for i in range(len(names)):
-                for j in range(i + 1, len(names)):
-                    for k in range(j + 1, len(names)):
-                        groups[(crate, names[i], names[j], names[k])].add(where)
+            names = sorted(set(re.findall(r"\b([a-z]\w*): ", sig.split("(", 1)[-1])) - {"self"})
+            for trio in combinations(names, 3):
+                groups[(crate, trio)].add(where)
     twins = [v for v in twins.values() if len(v) > 1]
     print(f"## 2 functions with bodies of one shape: {sum(map(len, twins))} in {len(twins)} groups")
     for v in twins:
         print("  " + " ~ ".join(v))
-    known = {"Checked", "Fault", "Self", "ByteChunk", "Some", "None", "Ok", "Err"}
+    known = {"Checked", "Fault", "Self", "ByteChunk", "Some", "None", "Ok", "Err", "SIZE", "MAX_ACC"}
     often = {k: v for k, v in facts.items() if len(v) >= 3 and k[1] not in known}
     print(f"## 5 facts in the contracts of three or more functions: {len(often)}")
     for (crate, fact), v in sorted(often.items()):
         print(f"  {crate} {fact}: {len(v)}: " + ", ".join(sorted(x.split("::", 1)[1] for x in v)))
-    travel = {k: v for k, v in groups.items() if len(v) >= 3}
-    print(f"## 5 three parameters that travel together through three or more functions: {len(travel)}")
-    for (crate, *names), v in sorted(travel.items()):
-        print(f"  {crate} {', '.join(names)}: {len(v)}: " + ", ".join(sorted(x.split("::", 1)[1] for x in v)))
+    merged = defaultdict(set)
+    for (crate, trio), v in groups.items():
+        if len(v) >= 3:
+            merged[(crate, tuple(sorted(v)))] |= set(trio)
+    print(f"## 5 groups of parameters that travel together through three or more functions: {len(merged)}")
+    for (crate, v), names in sorted(merged.items()):
+        print(f"  {crate} {', '.join(sorted(names))}: {len(v)}: " + ", ".join(x.split("::", 1)[1] for x in v))
     proofs = git("ls-tree", "-r", "--name-only", commit or "HEAD", "crates").split("\n")
     proofs = [n for n in proofs if re.fullmatch(r"crates/\w+/proofs/.*\.antt", n)]
     lines = Counter()

@@ -20,6 +20,7 @@ pub trait Measure {
 
     // The summed weight of the cells that end after place a and at or before place b, 0 if a is not below b; counted by
     // chunks of the kind K after the first `head` bytes, whatever that is. A place past the length stands for the length.
+    // Every call names them all anew.
     fn sum<K: ByteChunk>(&self, text: Checked<'_>, a: usize, b: usize, head: usize) -> usize
         ensures { result ≡ index weight text.entry.bytes.now b - index weight text.entry.bytes.now a };
 

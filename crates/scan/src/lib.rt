@@ -7,7 +7,8 @@ ghost use Rattle.scan.specs.Rounds.{Added};
 
 use chunk::ByteChunk;
 
-// A rule that says which bytes of a text count.
+// A rule that says which bytes of a text count. What it looks at goes apart, and not as one struct: most rules look at one
+// or two of the three.
 pub trait Scan: Copy {
     // Whether a byte counts, by the second byte before it, the one before it, and itself; 0 stands before the text.
     ghost hit: { Rule };

@@ -30,7 +30,7 @@ fn units_in_rows<K: ByteChunk>(text: &[u8], place: usize, n: usize) -> usize
 }
 
 // The way to where unit k begins: the place that it has come to, and how many units begin before it, no more than k.
-// Apart from the way in `counted`: one type for both facts would need a trait that has them and their laws.
+// Each crate that finds a start has its own way: one type for all would be public, and ask its callers for the fact.
 #[derive(Drop)]
 struct Way<'a> {
     text: &'a [u8],
