@@ -7,9 +7,8 @@ ghost use Rattle.cells.specs.Near.{back};
 pub fn byte_back(text: &[u8], places: usize, place: usize) -> u8
     ensures { result ≡ back places text.now place }
 {
-    place
-        .checked_sub(places)
-        .and_then(|at| text.get(at))
-        .copied()
-        .unwrap_or(0)
+    match place.checked_sub(places) {
+        Some(at) => text.get(at).copied().unwrap_or(0),
+        None => 0,
+    }
 }

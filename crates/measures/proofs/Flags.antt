@@ -132,11 +132,14 @@ module _ {n : ℕ} {qs ps xs : List ℕ} (rq : Row n qs) (rp : Row n ps) (rx : R
   single : {lf cr all : List ℕ} → all ≡ zip2 (λ x y. x + y) lf cr → lf ≡ map (is_byte 10) xs → cr ≡ map (is_byte 13) xs → Has (λ q p x. is_byte 10 x + is_byte 13 x) all
   single a l r = made (λ x y. x + y) (one (is_byte 10) l) (one (is_byte 13) r) a
 
-  pub crlf_sub : {lf cr all second : List ℕ} → all ≡ zip2 (λ x y. x + y) lf cr → lf ≡ map (is_byte 10) xs → cr ≡ map (is_byte 13) xs → second ≡ zip2 (pair 13 10) ps xs → Each2 (λ x y. y ≤ x) all second
-  crlf_sub a l r s = fit (λ x y. y ≤ x) (single a l r) (two (pair 13 10) s) (λ q p x. grind (arith, nat_tests))
+  second_of : {near lf second : List ℕ} → second ≡ zip2 bit_and near lf → near ≡ map (is_byte 13) ps → lf ≡ map (is_byte 10) xs → Has (λ q p x. pair 13 10 p x) second
+  second_of s d l = two (pair 13 10) (s ∙ simp (d, l) (paired 13 10 ps xs))
 
-  pub crlf_row : {lf cr all second row : List ℕ} → row ≡ zip2 (λ x y. x - y) all second → all ≡ zip2 (λ x y. x + y) lf cr → lf ≡ map (is_byte 10) xs → cr ≡ map (is_byte 13) xs → second ≡ zip2 (pair 13 10) ps xs → row ≡ zip3 (mark crlf_hit) qs ps xs
-  crlf_row e a l r s = flags_of crlf_hit (made (λ x y. x - y) (single a l r) (two (pair 13 10) s) e) (λ q p x h. grind (arith, nat_tests))
+  pub crlf_sub : {lf cr all near second : List ℕ} → all ≡ zip2 (λ x y. x + y) lf cr → lf ≡ map (is_byte 10) xs → cr ≡ map (is_byte 13) xs → near ≡ map (is_byte 13) ps → second ≡ zip2 bit_and near lf → Each2 (λ x y. y ≤ x) all second
+  crlf_sub a l r d s = fit (λ x y. y ≤ x) (single a l r) (second_of s d l) (λ q p x. grind (arith, nat_tests))
+
+  pub crlf_row : {lf cr all near second row : List ℕ} → row ≡ zip2 (λ x y. x - y) all second → all ≡ zip2 (λ x y. x + y) lf cr → lf ≡ map (is_byte 10) xs → cr ≡ map (is_byte 13) xs → near ≡ map (is_byte 13) ps → second ≡ zip2 bit_and near lf → row ≡ zip3 (mark crlf_hit) qs ps xs
+  crlf_row e a l r d s = flags_of crlf_hit (made (λ x y. x - y) (single a l r) (second_of s d l) e) (λ q p x h. grind (arith, nat_tests))
 
   -- ---- the breaks of Unicode
   pub separators_row : {firsts lasts row : List ℕ} → firsts ≡ zip2 (pair 0xE2 0x80) qs ps → lasts ≡ map (masked 0xFE 0xA8) xs → row ≡ zip2 bit_and firsts lasts → row ≡ zip3 (mark separator) qs ps xs

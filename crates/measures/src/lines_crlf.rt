@@ -6,7 +6,6 @@ ghost use Rattle.measures.specs.Once.{crlf_linked};
 
 use crate::breaks::{Breaks, Lined};
 use crate::near::{CR, LF, byte_back, crlf_before, in_crlf};
-use crate::rows::pairs;
 use chunk::ByteChunk;
 use scan::Scan;
 use utf8::Checked;
@@ -25,9 +24,11 @@ impl Scan for CrLf {
     }
 
     fn flags<K: ByteChunk>(_far: K, near: K, row: K) -> K {
-        row.cmp_eq_byte(LF)
-            .add(row.cmp_eq_byte(CR))
-            .sub(pairs(near, CR, row, LF))
+        // With `pairs`, the flags of LF are computed twice, and a count takes longer.
+        let lf = row.cmp_eq_byte(LF);
+        let cr = row.cmp_eq_byte(CR);
+        let second = near.cmp_eq_byte(CR).bitand(lf);
+        lf.add(cr).sub(second)
     }
 }
 

@@ -1,6 +1,8 @@
 // A case of the table: a line with a step, two operands and what each kind should answer, all but the step in hex.
-use anyhow::{Context, anyhow};
 use std::alloc::Global;
+use std::error::Error;
+use std::fmt;
+use std::str::FromStr;
 
 #[derive(Clone, Copy, PartialEq, Eq)]
 pub enum Step {
@@ -21,9 +23,13 @@ pub enum Step {
     SumBytes,
 }
 
-impl Step {
-    pub fn name(self) -> &'static str {
-        match self {
+// A name that no step has.
+#[derive(Debug, Clone, Copy)]
+pub struct UnknownStep;
+
+impl fmt::Display for Step {
+    fn fmt<W: fmt::Write>(&self, f: &mut fmt::Formatter<W>) -> fmt::Result {
+        f.write_str(match self {
             Step::Load => "load",
             Step::Zero => "zero",
             Step::Splat => "splat",
@@ -39,79 +45,76 @@ impl Step {
             Step::IncNthFromEnd => "inc_nth_from_end_lex_byte",
             Step::DecLast => "dec_last_lex_byte",
             Step::SumBytes => "sum_bytes",
-        }
+        })
     }
+}
 
-    fn named(name: &str) -> Option<Step> {
+impl fmt::Display for UnknownStep {
+    fn fmt<W: fmt::Write>(&self, f: &mut fmt::Formatter<W>) -> fmt::Result {
+        f.write_str("no such step")
+    }
+}
+
+impl Error for UnknownStep {}
+
+impl FromStr for Step {
+    type Err = UnknownStep;
+
+    fn from_str(name: &str) -> Result<Step, UnknownStep> {
         match name {
-            "load" => Some(Step::Load),
-            "zero" => Some(Step::Zero),
-            "splat" => Some(Step::Splat),
-            "is_zero" => Some(Step::IsZero),
-            "shift_back_lex" => Some(Step::ShiftBackLex),
-            "shift_across" => Some(Step::ShiftAcross),
-            "shr" => Some(Step::Shr),
-            "cmp_eq_byte" => Some(Step::CmpEqByte),
-            "bytes_between_127" => Some(Step::BytesBetween127),
-            "bitand" => Some(Step::BitAnd),
-            "add" => Some(Step::Add),
-            "sub" => Some(Step::Sub),
-            "inc_nth_from_end_lex_byte" => Some(Step::IncNthFromEnd),
-            "dec_last_lex_byte" => Some(Step::DecLast),
-            "sum_bytes" => Some(Step::SumBytes),
-            _ => None,
+            "load" => Ok(Step::Load),
+            "zero" => Ok(Step::Zero),
+            "splat" => Ok(Step::Splat),
+            "is_zero" => Ok(Step::IsZero),
+            "shift_back_lex" => Ok(Step::ShiftBackLex),
+            "shift_across" => Ok(Step::ShiftAcross),
+            "shr" => Ok(Step::Shr),
+            "cmp_eq_byte" => Ok(Step::CmpEqByte),
+            "bytes_between_127" => Ok(Step::BytesBetween127),
+            "bitand" => Ok(Step::BitAnd),
+            "add" => Ok(Step::Add),
+            "sub" => Ok(Step::Sub),
+            "inc_nth_from_end_lex_byte" => Ok(Step::IncNthFromEnd),
+            "dec_last_lex_byte" => Ok(Step::DecLast),
+            "sum_bytes" => Ok(Step::SumBytes),
+            _ => Err(UnknownStep),
         }
     }
 }
 
-// The operands, and the answer of eight and of sixteen lanes: no bytes where a step is not allowed.
+// The operands, and the answer of eight and of sixteen lanes: none where a step is not allowed.
 #[derive(Drop)]
 pub struct Case {
     pub step: Step,
     pub x: Vec<u8>,
     pub y: Vec<u8>,
-    pub eight: Vec<u8>,
-    pub sixteen: Vec<u8>,
-}
-
-fn digit(b: u8) -> Option<u8> {
-    match b {
-        b'0'..=b'9' => Some(b - b'0'),
-        b'A'..=b'F' => Some(b - b'A' + 10),
-        _ => None,
-    }
+    pub eight: Option<Vec<u8>>,
+    pub sixteen: Option<Vec<u8>>,
 }
 
 // The bytes that a word of hex digits stands for; none for `-`.
-fn read_bytes(heap: Global, word: &str) -> anyhow::Result<Vec<u8>> {
-    let mut bytes = Vec::new(heap);
+fn read_answer(heap: Global, word: &str) -> anyhow::Result<Option<Vec<u8>>> {
     if word == "-" {
-        return Ok(bytes);
+        return Ok(None);
     }
-    let mut upper = None;
-    for b in word.as_bytes() {
-        let value = digit(*b).context("a word is not in hex")?;
-        match upper {
-            None => upper = Some(value),
-            Some(u) => {
-                bytes.push((u << 4) | value)?;
-                upper = None;
-            }
-        }
+    Ok(Some(hex::decode(heap, word)?))
+}
+
+// The same for an operand, which `-` leaves empty.
+fn read_operand(heap: Global, word: &str) -> anyhow::Result<Vec<u8>> {
+    match read_answer(heap, word)? {
+        Some(bytes) => Ok(bytes),
+        None => Ok(Vec::new(heap)),
     }
-    if upper.is_some() {
-        return Err(anyhow!("half a byte"));
-    }
-    Ok(bytes)
 }
 
 pub fn read_case(heap: Global, line: &str) -> anyhow::Result<Case> {
     let mut words = line.split_whitespace();
-    let step = Step::named(words.next().unwrap_or("")).context("no such step")?;
-    let x = read_bytes(heap, words.next().unwrap_or(""))?;
-    let y = read_bytes(heap, words.next().unwrap_or(""))?;
-    let eight = read_bytes(heap, words.next().unwrap_or(""))?;
-    let sixteen = read_bytes(heap, words.next().unwrap_or(""))?;
+    let step = words.next().unwrap_or("").parse::<Step>()?;
+    let x = read_operand(heap, words.next().unwrap_or(""))?;
+    let y = read_operand(heap, words.next().unwrap_or(""))?;
+    let eight = read_answer(heap, words.next().unwrap_or(""))?;
+    let sixteen = read_answer(heap, words.next().unwrap_or(""))?;
     Ok(Case {
         step,
         x,

@@ -20,12 +20,25 @@ struct Tally {
     lanes: usize,
 }
 
+impl Tally {
+    fn new(step: Step) -> Tally {
+        Tally {
+            step,
+            cases: 0,
+            word: 0,
+            lanes: 0,
+        }
+    }
+}
+
 fn print_tally(rt: &HostRuntime, tally: Tally) -> anyhow::Result<()> {
-    let name = tally.step.name();
-    let cases = tally.cases;
-    let word = tally.word;
-    let lanes = tally.lanes;
-    println!(rt; "{name}: {cases} cases, {word} agree on the word, {lanes} on the array")?;
+    let Tally {
+        step,
+        cases,
+        word,
+        lanes,
+    } = tally;
+    println!(rt; "{step}: {cases} cases, {word} agree on the word, {lanes} on the array")?;
     Ok(())
 }
 
@@ -33,8 +46,8 @@ fn print_tally(rt: &HostRuntime, tally: Tally) -> anyhow::Result<()> {
 fn play_case(rt: &HostRuntime, line: &str, case: &Case, tally: &mut Tally) -> anyhow::Result<()> {
     let x = case.x.as_slice();
     let y = case.y.as_slice();
-    let word = agrees::<Word>(case.step, x, y, case.eight.as_slice());
-    let lanes = agrees::<Lanes16>(case.step, x, y, case.sixteen.as_slice());
+    let word = agrees::<Word>(case.step, x, y, case.eight.as_deref());
+    let lanes = agrees::<Lanes16>(case.step, x, y, case.sixteen.as_deref());
     if !word {
         println!(rt; "the word does not agree: {line}")?;
     }
@@ -48,12 +61,7 @@ fn play_case(rt: &HostRuntime, line: &str, case: &Case, tally: &mut Tally) -> an
 }
 
 fn play_table(rt: &HostRuntime, table: &str) -> anyhow::Result<()> {
-    let mut tally = Tally {
-        step: Step::Load,
-        cases: 0,
-        word: 0,
-        lanes: 0,
-    };
+    let mut tally = Tally::new(Step::Load);
     for line in table.lines() {
         if line.is_empty() || line.starts_with('#') {
             continue;
@@ -61,12 +69,7 @@ fn play_table(rt: &HostRuntime, table: &str) -> anyhow::Result<()> {
         let case = read_case(rt.alloc(), line)?;
         if case.step != tally.step {
             print_tally(rt, tally)?;
-            tally = Tally {
-                step: case.step,
-                cases: 0,
-                word: 0,
-                lanes: 0,
-            };
+            tally = Tally::new(case.step);
         }
         play_case(rt, line, &case, &mut tally)?;
     }

@@ -1,4 +1,4 @@
-// One case on one chunk kind: each step is made only where its limits hold, so that an answer of no bytes stands for the rest.
+// One case on one chunk kind: each step is made only where its limits hold, and there is no answer elsewhere.
 ghost use Rattle.std.specs.Prelude.{◌≡◌, ◌+◌, ◌<◌, ◌≤◌, true};
 ghost use Rattle.std.specs.Simd.Lanes.{Each1, Each2};
 
@@ -105,40 +105,40 @@ fn summed<K: Shown>(row: K) -> Option<usize> {
     Some(row.sum_bytes())
 }
 
-fn same_row<K: Shown>(row: Option<K>, expected: &[u8]) -> bool {
-    let Some(row) = row else {
-        return expected.is_empty();
-    };
-    if expected.len() != K::SIZE {
-        return false;
+fn same_row<K: Shown>(row: Option<K>, expected: Option<&[u8]>) -> bool {
+    match (row, expected) {
+        (Some(row), Some(bytes)) => bytes.len() == K::SIZE
+            && bytes
+                .iter()
+                .enumerate()
+                .all(|(i, byte)| row.shown(i) == *byte),
+        (None, None) => true,
+        _ => false,
     }
-    for i in 0..expected.len() {
-        if row.shown(i) != expected[i] {
-            return false;
-        }
-    }
-    true
 }
 
 // A flag is a byte, 1 or 0.
-fn same_flag(flag: bool, expected: &[u8]) -> bool {
-    expected.len() == 1 && expected[0] == flag as u8
+fn same_flag(flag: bool, expected: Option<&[u8]>) -> bool {
+    match expected {
+        Some([byte]) => *byte == flag as u8,
+        _ => false,
+    }
 }
 
 // A sum is two bytes, the upper first.
-fn same_sum(sum: Option<usize>, expected: &[u8]) -> bool {
-    match sum {
-        None => expected.is_empty(),
-        Some(sum) => expected.len() == 2
-            && expected[0] as usize * 256 + expected[1] as usize == sum,
+fn same_sum(sum: Option<usize>, expected: Option<&[u8]>) -> bool {
+    match (sum, expected) {
+        (Some(sum), Some([upper, lower])) => u16::from_be_bytes([*upper, *lower]) as usize == sum,
+        (None, None) => true,
+        _ => false,
     }
 }
 
 fn byte_at(bytes: &[u8], i: usize) -> u8 {
-    if i < bytes.len() { bytes[i] } else { 0 }
+    bytes.get(i).copied().unwrap_or(0)
 }
 
-fn agrees_on_two<K: Shown>(step: Step, row: K, other: K, expected: &[u8]) -> bool {
+fn agrees_on_two<K: Shown>(step: Step, row: K, other: K, expected: Option<&[u8]>) -> bool {
     match step {
         Step::ShiftAcross => same_row(Some(row.shift_across(other)), expected),
         Step::BitAnd => same_row(Some(row.bitand(other)), expected),
@@ -148,7 +148,7 @@ fn agrees_on_two<K: Shown>(step: Step, row: K, other: K, expected: &[u8]) -> boo
     }
 }
 
-fn agrees_on_one<K: Shown>(step: Step, row: K, y: &[u8], expected: &[u8]) -> bool {
+fn agrees_on_one<K: Shown>(step: Step, row: K, y: &[u8], expected: Option<&[u8]>) -> bool {
     let n = byte_at(y, 0);
     match step {
         Step::IsZero => same_flag(row.is_zero(), expected),
@@ -167,7 +167,7 @@ fn agrees_on_one<K: Shown>(step: Step, row: K, y: &[u8], expected: &[u8]) -> boo
 }
 
 // Whether the kind answers the step on its operands as expected. A row is the first bytes of an operand.
-pub fn agrees<K: Shown>(step: Step, x: &[u8], y: &[u8], expected: &[u8]) -> bool {
+pub fn agrees<K: Shown>(step: Step, x: &[u8], y: &[u8], expected: Option<&[u8]>) -> bool {
     let n = byte_at(y, 0);
     match step {
         Step::Load => same_row(loaded::<K>(x, n as usize), expected),
