@@ -9,36 +9,21 @@ use crate::kind::Shown;
 fn sums_fit<K: Shown>(a: K, b: K) -> bool
     ensures { result ≡ true → Each2 (λ x y. x + y < 256) (K.ByteChunk.lanes a) (K.ByteChunk.lanes b) }
 {
-    for i in 0..K::SIZE {
-        if a.shown(i) > 255 - b.shown(i) {
-            return false;
-        }
-    }
-    true
+    (0..K::SIZE).all(|i| a.shown(i) <= 255 - b.shown(i))
 }
 
 // Whether no lane of b is above that of a.
 fn differences_fit<K: Shown>(a: K, b: K) -> bool
     ensures { result ≡ true → Each2 (λ x y. y ≤ x) (K.ByteChunk.lanes a) (K.ByteChunk.lanes b) }
 {
-    for i in 0..K::SIZE {
-        if a.shown(i) < b.shown(i) {
-            return false;
-        }
-    }
-    true
+    (0..K::SIZE).all(|i| b.shown(i) <= a.shown(i))
 }
 
 // Whether no lane is above what a sum takes.
 fn lanes_fit<K: Shown>(a: K) -> bool
     ensures { result ≡ true → Each1 (λ x. x ≤ K.ByteChunk.MAX_ACC) (K.ByteChunk.lanes a) }
 {
-    for i in 0..K::SIZE {
-        if a.shown(i) as usize > K::MAX_ACC {
-            return false;
-        }
-    }
-    true
+    (0..K::SIZE).all(|i| a.shown(i) as usize <= K::MAX_ACC)
 }
 
 fn loaded<K: Shown>(text: &[u8], place: usize) -> Option<K> {
