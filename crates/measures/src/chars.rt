@@ -62,6 +62,7 @@ impl Counted for Chars {
     }
 }
 
+// The members stand here again: `Measure` lies below `Counted`, and the measure of UTF-16 units is no `Counted`.
 impl Measure for Chars {
     ghost ends = { char_ends };
 
