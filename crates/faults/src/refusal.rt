@@ -11,6 +11,7 @@ pub enum Layer {
 
 #[derive(Clone, Copy, Debug, PartialEq, Eq)]
 pub struct Refusal {
+    // a number and no enum: it is what users read, and causes already name the rest
     pub number: u8,
     pub layer: Layer,
 }

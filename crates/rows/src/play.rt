@@ -27,67 +27,40 @@ fn lanes_fit<K: Shown>(a: K) -> bool
 }
 
 fn loaded<K: Shown>(text: &[u8], place: usize) -> Option<K> {
-    if place > text.len() || text.len() - place < K::SIZE {
-        return None;
-    }
-    Some(K::load(text, place))
+    (place <= text.len() && text.len() - place >= K::SIZE).then(|| K::load(text, place))
 }
 
 fn moved_back<K: Shown>(row: K, n: usize) -> Option<K> {
-    if n > K::SIZE {
-        return None;
-    }
-    Some(row.shift_back_lex(n))
+    (n <= K::SIZE).then(|| row.shift_back_lex(n))
 }
 
 // The lower bits that `shr` fixes: its free top bits are masked.
 fn lowered<K: Shown>(row: K, n: usize) -> Option<K> {
-    if n > 7 {
-        return None;
-    }
-    Some(row.shr(n).bitand(K::splat(255 >> n)))
+    (n < 8).then(|| row.shr(n).bitand(K::splat(255 >> n)))
 }
 
 fn between<K: Shown>(row: K, a: u8, b: u8) -> Option<K> {
-    if a >= b || b > 127 {
-        return None;
-    }
-    Some(row.bytes_between_127(a, b))
+    (a < b && b < 128).then(|| row.bytes_between_127(a, b))
 }
 
 fn added<K: Shown>(row: K, other: K) -> Option<K> {
-    if !sums_fit(row, other) {
-        return None;
-    }
-    Some(row.add(other))
+    sums_fit(row, other).then(|| row.add(other))
 }
 
 fn lessened<K: Shown>(row: K, other: K) -> Option<K> {
-    if !differences_fit(row, other) {
-        return None;
-    }
-    Some(row.sub(other))
+    differences_fit(row, other).then(|| row.sub(other))
 }
 
 fn increased<K: Shown>(row: K, n: usize) -> Option<K> {
-    if n >= K::SIZE || row.shown(K::SIZE - 1 - n) == 255 {
-        return None;
-    }
-    Some(row.inc_nth_from_end_lex_byte(n))
+    (n < K::SIZE && row.shown(K::SIZE - 1 - n) < 255).then(|| row.inc_nth_from_end_lex_byte(n))
 }
 
 fn decreased<K: Shown>(row: K) -> Option<K> {
-    if row.shown(K::SIZE.saturating_sub(1)) == 0 {
-        return None;
-    }
-    Some(row.dec_last_lex_byte())
+    (row.shown(K::SIZE.saturating_sub(1)) > 0).then(|| row.dec_last_lex_byte())
 }
 
 fn summed<K: Shown>(row: K) -> Option<usize> {
-    if !lanes_fit(row) {
-        return None;
-    }
-    Some(row.sum_bytes())
+    lanes_fit(row).then(|| row.sum_bytes())
 }
 
 fn same_row<K: Shown>(row: Option<K>, expected: Option<&[u8]>) -> bool {

@@ -95,7 +95,7 @@ pub fn round<S: Scan, K: ByteChunk>(text: &[u8], from: usize, n: usize) -> usize
     ensures { result ≡ counted S.Scan.hit text.now from (n * K.ByteChunk.SIZE) }
 {
     let mut rows = Rows::<K>::before(text, from);
-    // A `for` over the fours was tried: on words some rules then take half as long again.
+    // A `for` over the fours was tried: on words, CR LF then takes 1.4 times as long.
     let mut done: usize = 0;
     while n - done >= 4 {
         rows = rows.add::<S>(text, from, done);
@@ -132,7 +132,7 @@ pub fn count<S: Scan, K: ByteChunk>(text: &[u8], from: usize, to: usize, head: u
     let start = from + head.min(to - from);
     let mut count = singly::<S>(text, from, start);
     let mut place = start;
-    // Rounds by a `for` with `step_by` were tried: counting chars on sixteen lanes then takes a fifth longer.
+    // Rounds by a `for` with `step_by` were tried: counting chars on sixteen lanes then takes a sixth longer.
     while to - place >= size {
         let n = round_len(to - place, size, K::MAX_ACC);
         count += round::<S, K>(text, place, n);
