@@ -1,17 +1,15 @@
 -- What one record more adds to a transcript, and that a transcript is the only one. Assumes nothing.
 use Rattle.std.proofs.Common.{◌≡◌, ℕ, ◌+◌, ◌<◌, ◌≤◌, Bool, true, false, cond, eqb, leb, List, [], ◌++◌, length, get_or, Some, None, Ok, Err, Option, Result, sym, refl, ap, ◌∙◌, subst, append_assoc, append-nil, arith}
-use Rattle.std.proofs.lemmas.Bool.{leb-true, le-ltb}
+use Rattle.std.proofs.lemmas.Bool.{leb-true}
 use Rattle.faults.specs.Layers.{CueFault as Fault}
-use Rattle.faults.specs.declared.cue.Cause.TheVariants.{Check, Cut}
-use Rattle.faults.specs.Layers.{CheckFault}
+use Rattle.faults.specs.declared.cue.Cause.TheVariants.{Cut}
 use Rattle.faults.specs.Layers.{CountFault}
-use Rattle.utf8.specs.FirstFault.{first_fault}
 use Rattle.cue.specs.declared.record.Cue.{Cue}
 use Rattle.cue.specs.declared.record.Record.{Record}
 use Rattle.cue.specs.declared.stop.Stop.{Stop}
 use Rattle.cue.specs.declared.stop.Stop.TheVariants.{NoMemory, Refused}
 use Rattle.cue.specs.Places.{place_of}
-use Rattle.cue.specs.Prints.{line_of, refused_line, too_large, larger, no_text, or_else, not_admitted, Plays, Prints, OnlyPrints}
+use Rattle.cue.specs.Prints.{line_of, refused_line, not_admitted, Plays, Prints, OnlyPrints}
 use Rattle.cue.specs.Prints.Plays.{ends, answers, refuses}
 use Rattle.cue.specs.Prints.Prints.{refused, plays}
 use Rattle.cue.specs.Records.{record_at, whole}
@@ -120,12 +118,6 @@ module _ (text cues before after : List ℕ) (z : before ≡ []) where
   refusal_printed f out l a =
       let is : out ≡ l.0 ++ refused_line f = a ∙ ap (λ (b : List ℕ). b ++ refused_line f) (l.1 ∙ ap (λ (b : List ℕ). b ++ l.0) z) in
       only_prints text cues out (subst (Prints text cues) (sym is) l.2)
-
--- a text that is none is refused if its size is not
-pub not_text : (text cues : List ℕ) (f : CheckFault) → length text ≤ 16384 → first_fault text ≡ Some f → not_admitted text cues ≡ Some (record { place = f.place; cause = Check f })
-not_text text cues f h e =
-    ap (λ (b : Bool). or_else (cond b (Some (too_large 16384)) None) (or_else (no_text (first_fault text)) (larger 4096 cues))) (le-ltb 16384 (length text) h)
-    ∙ ap (λ (o : Option CheckFault). or_else (no_text o) (larger 4096 cues)) e
 
 -- an answer is the one that was promised
 pub same_answer : {a b : ℕ} → ◌≡◌ {A = Result ℕ CountFault} (Ok a) (Ok b) → a ≡ b

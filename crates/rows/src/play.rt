@@ -63,6 +63,7 @@ fn summed<K: Shown>(row: K) -> Option<usize> {
     lanes_fit(row).then(|| row.sum_bytes())
 }
 
+// No `==`: a row is compared with bytes, by what shows of it.
 fn same_row<K: Shown>(row: Option<K>, expected: Option<&[u8]>) -> bool {
     match (row, expected) {
         (Some(row), Some(bytes)) => bytes.len() == K::SIZE
@@ -125,6 +126,7 @@ fn agrees_on_one<K: Shown>(step: Step, row: K, y: &[u8], expected: Option<&[u8]>
 }
 
 // Whether the kind answers the step on its operands as expected. A row is the first bytes of an operand.
+// A match, and no closures: the steps take operands of different types, and some give no row back.
 pub fn agrees<K: Shown>(step: Step, x: &[u8], y: &[u8], expected: Option<&[u8]>) -> bool {
     let n = byte_at(y, 0);
     match step {

@@ -69,7 +69,7 @@ impl FromStr for Module {
 }
 
 impl Ask {
-    // What the module answers, by a chunk kind and at a head.
+    // What the module answers, by a chunk kind and at a head. A match, since the calls are generic and have no pointer.
     fn by_module<'a, K: ByteChunk, T: Source<'a>>(
         self,
         text: T,

@@ -12,7 +12,7 @@ use str_indices::{chars, utf16};
 use utf8::{Checked, check};
 use word::Word;
 
-// What a call answered: `ok`, or number and place as `1@0`.
+// What a call answered: `ok`, or number and place as `1@0`, a form of the list's own.
 fn told<C: Reason>(heap: Global, fault: Option<Fault<C>>) -> Result<String, AllocError> {
     let Some(fault) = fault else {
         return String::from_str(heap, "ok");
