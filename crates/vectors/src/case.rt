@@ -1,7 +1,7 @@
 // One case: a question, what it is asked of, and the answer that is expected.
 use crate::ask::Ask;
 use crate::bytes::bytes_of;
-use anyhow::anyhow;
+use anyhow::{Context, anyhow};
 use chunk::ByteChunk;
 use cue::transcript::transcript;
 use faults::{Fault, Reason};
@@ -24,10 +24,7 @@ fn told<C: Reason>(heap: Global, fault: Option<Fault<C>>) -> Result<String, Allo
 
 // The bytes as a text.
 fn text_of(bytes: &[u8]) -> anyhow::Result<Checked<'_>> {
-    match Checked::try_from(bytes) {
-        Ok(text) => Ok(text),
-        Err(_) => Err(anyhow!("no text")),
-    }
+    Checked::try_from(bytes).ok().context("no text")
 }
 
 // `held GOOD BAD`: a holder that checked GOOD and was refused BAD holds GOOD.
