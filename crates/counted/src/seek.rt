@@ -12,6 +12,7 @@ use std::marker::PhantomData;
 use utf8::Checked;
 
 // The way to where k begins: the place that it has come to, and what is counted before it.
+// Each crate that finds a start has its own way: one for all would need a trait for the facts and their laws, no plainer.
 #[derive(Drop)]
 struct Way<'a, C: Counted> {
     text: &'a [u8],

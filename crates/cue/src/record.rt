@@ -52,10 +52,7 @@ pub fn record_at(bytes: &[u8], at: usize) -> Result<Option<Record>, Fault>
     let Some(first) = bytes.get(at) else {
         return Ok(None);
     };
-    let kind = match Kind::try_from(*first) {
-        Ok(kind) => kind,
-        Err(cause) => return Err(Fault { place: at, cause }),
-    };
+    let kind = Kind::try_from(*first).map_err(|cause| Fault { place: at, cause })?;
     let size = kind.size();
     if bytes.len() - at < size {
         return Err(Fault {

@@ -4,7 +4,7 @@ ghost use Rattle.cue.specs.declared.stop.Stop.TheVariants.{NoMemory, Refused};
 ghost use Rattle.faults.specs.declared.cue.Cause.TheVariants.{Count};
 
 use faults::count;
-use faults::cue::{Cause, Fault};
+use faults::cue::Fault;
 use std::alloc::AllocError;
 
 #[derive(Drop)]
@@ -33,9 +33,6 @@ impl From<count::Fault> for Stop {
     ghost from_gives = { λ f r. r ≡ Refused (record { place = f.place; cause = Count f }) };
 
     fn from(f: count::Fault) -> Stop {
-        Stop::Refused(Fault {
-            place: f.place,
-            cause: Cause::Count(f),
-        })
+        Stop::Refused(Fault::from(f))
     }
 }

@@ -45,7 +45,7 @@ impl Reason for Cause {
     }
 }
 
-// One impl for each pair of layers: one over all causes would overlap `From<T> for T`.
+// One impl for each pair of layers, since nothing is plainer: one over all causes would overlap `From<T> for T`.
 impl From<check::Fault> for Fault {
     ghost from_gives = { λ f r. r ≡ record { place = f.place; cause = Check f } };
 

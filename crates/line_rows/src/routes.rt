@@ -65,8 +65,7 @@ pub fn count_breaks_impl<K: ByteChunk>(text: &[u8], head: usize) -> usize
 }
 
 // The way to where k breaks count: the place that it has come to, and how many count before it.
-// Each crate that finds a start has its own way: one type for all would be public, and ask its callers for the fact.
-// Apart from those in `counted` and `units`: one type for all their facts would need a trait that has them and their laws.
+// Each crate that finds a start has its own way: one for all would need a trait for the facts and their laws, no plainer.
 #[derive(Drop)]
 struct Way<'a> {
     text: &'a [u8],

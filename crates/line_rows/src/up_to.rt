@@ -4,8 +4,8 @@ ghost use Rattle.measures.specs.Breaks.{in_crlf};
 ghost use Rattle.line_rows.specs.Begins.{break_counts};
 ghost use Rattle.line_rows.specs.Passing.{Passed};
 
-use crate::near::byte_at;
-use measures::near::{CR, FF, LF, VT, byte_back};
+use crate::near::{byte_at, separator_at};
+use measures::near::{CR, FF, LF, VT, byte_back, in_crlf};
 
 // Whether a break counts at a byte: its first one, or the LF of CR LF.
 fn break_counts(bytes: &[u8], place: usize) -> bool
@@ -17,7 +17,7 @@ fn break_counts(bytes: &[u8], place: usize) -> bool
         LF | VT | FF => true,
         CR => next != LF,
         0xC2 => next == 0x85,
-        0xE2 => next == 0x80 && byte_at(bytes, place + 2) >> 1 == 0x54,
+        0xE2 => separator_at(bytes, place),
         _ => false,
     }
 }
@@ -42,5 +42,5 @@ pub fn count_breaks_up_to(bytes: &[u8], max_bytes: usize, max_breaks: usize) -> 
 pub fn is_not_crlf_middle(byte_idx: usize, text: &[u8]) -> bool
     ensures { result ≡ not (in_crlf text.now byte_idx) }
 {
-    byte_back(text, 1, byte_idx) != CR || byte_back(text, 0, byte_idx) != LF
+    !in_crlf(byte_back(text, 1, byte_idx), byte_back(text, 0, byte_idx))
 }

@@ -22,9 +22,8 @@ pub trait Breaks: Scan {
     fn break_ends(text: Checked<'_>, place: usize) -> bool
         ensures { result ≡ broken table text.entry.bytes.now place };
 
-    // The length of the break that ends at a place.
+    // The length of the break that ends at a place; 0 where none does.
     fn length_at(text: Checked<'_>, place: usize) -> usize
-        requires { broken table text.bytes.now place ≡ true }
         ensures { result ≡ break_length table text.entry.bytes.now place };
 
     fn splits(near: u8, byte: u8) -> bool
@@ -97,9 +96,6 @@ impl<B: Breaks> LineMeasure for Lined<B> {
     ghost breaks = { line_breaks B.table B.proper B.whole };
 
     fn break_length_at(&self, text: Checked<'_>, place: usize) -> usize {
-        if !B::break_ends(text, place) {
-            return 0;
-        }
         B::length_at(text, place)
     }
 }

@@ -62,7 +62,7 @@ impl Counted for Chars {
     }
 }
 
-// The members stand here again: `Measure` lies below `Counted`, and the measure of UTF-16 units is no `Counted`.
+// The members stand here again: with `Measure` as a supertrait, `Counted` and `Measure::sum` would each need the other.
 impl Measure for Chars {
     ghost ends = { char_ends };
 

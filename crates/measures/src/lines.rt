@@ -30,7 +30,7 @@ impl Scan for Unicode {
     ghost hit = { unicode_hit };
 
     fn single(far: u8, near: u8, byte: u8) -> bool {
-        byte > 0x09 && byte < 0x0E && !(near == CR && byte == LF)
+        byte > 0x09 && byte < 0x0E && !in_crlf(near, byte)
             || near == 0xC2 && byte == 0x85
             || far == 0xE2 && near == 0x80 && (byte == 0xA8 || byte == 0xA9)
     }
@@ -65,6 +65,9 @@ impl Breaks for Unicode {
     }
 
     fn length_at(text: Checked<'_>, place: usize) -> usize {
+        if !Unicode::break_ends(text, place) {
+            return 0;
+        }
         let bytes = text.bytes();
         if crlf_before(bytes, place) {
             return 2;

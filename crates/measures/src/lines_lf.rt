@@ -44,8 +44,8 @@ impl Breaks for Lf {
         byte_back(text.bytes(), 1, place) == LF
     }
 
-    fn length_at(_text: Checked<'_>, _place: usize) -> usize {
-        1
+    fn length_at(text: Checked<'_>, place: usize) -> usize {
+        usize::from(Lf::break_ends(text, place))
     }
 
     fn splits(_near: u8, _byte: u8) -> bool {

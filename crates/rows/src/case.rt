@@ -1,4 +1,5 @@
 // A case of the table: a line with a step, two operands and what each kind should answer, all but the step in hex.
+use anyhow::anyhow;
 use std::alloc::Global;
 use std::error::Error;
 use std::fmt;
@@ -102,24 +103,19 @@ fn read_answer(heap: Global, word: &str) -> anyhow::Result<Option<Vec<u8>>> {
 
 // The same for an operand, which `-` leaves empty.
 fn read_operand(heap: Global, word: &str) -> anyhow::Result<Vec<u8>> {
-    match read_answer(heap, word)? {
-        Some(bytes) => Ok(bytes),
-        None => Ok(Vec::new(heap)),
-    }
+    Ok(read_answer(heap, word)?.unwrap_or_else(|| Vec::new(heap)))
 }
 
 pub fn read_case(heap: Global, line: &str) -> anyhow::Result<Case> {
-    let mut words = line.split_whitespace();
-    let step = words.next().unwrap_or("").parse::<Step>()?;
-    let x = read_operand(heap, words.next().unwrap_or(""))?;
-    let y = read_operand(heap, words.next().unwrap_or(""))?;
-    let eight = read_answer(heap, words.next().unwrap_or(""))?;
-    let sixteen = read_answer(heap, words.next().unwrap_or(""))?;
+    let words: Vec<&str> = line.split_whitespace().collect(heap)?;
+    let [step, x, y, eight, sixteen] = *words.as_slice() else {
+        return Err(anyhow!("a case has five words"));
+    };
     Ok(Case {
-        step,
-        x,
-        y,
-        eight,
-        sixteen,
+        step: step.parse::<Step>()?,
+        x: read_operand(heap, x)?,
+        y: read_operand(heap, y)?,
+        eight: read_answer(heap, eight)?,
+        sixteen: read_answer(heap, sixteen)?,
     })
 }

@@ -8,7 +8,7 @@ mod play;
 use crate::case::{Case, Step, read_case};
 use crate::play::agrees;
 use lanes::Lanes16;
-use std::fs;
+use std::{fmt, fs};
 use word::Word;
 
 // The cases of one step so far.
@@ -31,15 +31,19 @@ impl Tally {
     }
 }
 
-fn print_tally(rt: &HostRuntime, tally: Tally) -> anyhow::Result<()> {
-    let Tally {
-        step,
-        cases,
-        word,
-        lanes,
-    } = tally;
-    println!(rt; "{step}: {cases} cases, {word} agree on the word, {lanes} on the array")?;
-    Ok(())
+impl fmt::Display for Tally {
+    fn fmt<W: fmt::Write>(&self, f: &mut fmt::Formatter<W>) -> fmt::Result {
+        let Tally {
+            step,
+            cases,
+            word,
+            lanes,
+        } = *self;
+        write!(
+            f,
+            "{step}: {cases} cases, {word} agree on the word, {lanes} on the array"
+        )
+    }
 }
 
 // Plays one case on both kinds, and prints it where one of them does not agree.
@@ -68,12 +72,13 @@ fn play_table(rt: &HostRuntime, table: &str) -> anyhow::Result<()> {
         }
         let case = read_case(rt.alloc(), line)?;
         if case.step != tally.step {
-            print_tally(rt, tally)?;
+            println!(rt; "{tally}")?;
             tally = Tally::new(case.step);
         }
         play_case(rt, line, &case, &mut tally)?;
     }
-    print_tally(rt, tally)
+    println!(rt; "{tally}")?;
+    Ok(())
 }
 
 fn run(rt: &HostRuntime) -> anyhow::Result<()> {

@@ -63,7 +63,7 @@ fn summed<K: Shown>(row: K) -> Option<usize> {
     lanes_fit(row).then(|| row.sum_bytes())
 }
 
-// No `==`: a row is compared with bytes, by what shows of it.
+// These three compare a row, a flag and a sum with bytes, so no `==` is derived.
 fn same_row<K: Shown>(row: Option<K>, expected: Option<&[u8]>) -> bool {
     match (row, expected) {
         (Some(row), Some(bytes)) => bytes.len() == K::SIZE

@@ -30,7 +30,7 @@ fn units_in_rows<K: ByteChunk>(text: &[u8], place: usize, n: usize) -> usize
 }
 
 // The way to where unit k begins: the place that it has come to, and how many units begin before it, no more than k.
-// Each crate that finds a start has its own way: one type for all would be public, and ask its callers for the fact.
+// Each crate that finds a start has its own way: one for all would need a trait for the facts and their laws, no plainer.
 #[derive(Drop)]
 struct Way<'a> {
     text: &'a [u8],

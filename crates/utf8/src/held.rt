@@ -1,7 +1,7 @@
 // A text that was checked: always well formed.
-ghost use Rattle.std.specs.Prelude.{◌≡◌, true, [], length, MatchResult};
+ghost use Rattle.std.specs.Prelude.{◌≡◌, true, None, [], length, MatchResult};
 ghost use Rattle.utf8.specs.Checks.{Passed, Refused, Taken};
-ghost use Rattle.utf8.specs.FirstFault.{is_text};
+ghost use Rattle.utf8.specs.FirstFault.{first_fault, is_text};
 
 use crate::checker::check;
 use faults::check::Fault;
@@ -10,6 +10,7 @@ use faults::check::Fault;
 pub struct Checked<'a> {
     bytes: &'a [u8],
     ghost sound: { is_text bytes.now ≡ true },
+    ghost faultless: { first_fault bytes.now ≡ None },
 }
 
 impl<'a> Checked<'a> {

@@ -69,7 +69,8 @@ impl FromStr for Module {
 }
 
 impl Ask {
-    // What the module answers, by a chunk kind and at a head. A match, since the calls are generic and have no pointer.
+    // What the module answers, by a chunk kind and at a head. A match: a table of calls
+    // would be no plainer, since they differ in what they take.
     fn by_module<'a, K: ByteChunk, T: Source<'a>>(
         self,
         text: T,

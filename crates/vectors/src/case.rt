@@ -41,6 +41,18 @@ fn pairs_agree<K: ByteChunk>(text: Checked<'_>, expected: usize) -> bool {
     })
 }
 
+// Whether a count of bytes answers so at a head.
+fn counts_so<K: ByteChunk>(
+    heap: Global,
+    head: &str,
+    bytes: &str,
+    expected: &str,
+) -> anyhow::Result<bool> {
+    let bytes = bytes_of(heap, bytes)?;
+    let answer = chars::count::<K, _>(bytes.as_slice(), head.parse::<usize>()?);
+    Ok(told(heap, answer.err())?.as_str() == expected)
+}
+
 // What the program prints, with `;` for each line's end and `_` for each space, and `-` for nothing.
 fn printed(heap: Global, text: &[u8], cues: &[u8]) -> anyhow::Result<String> {
     let out = transcript(heap, text, cues)?;
@@ -78,7 +90,9 @@ pub fn agrees(heap: Global, line: &str) -> anyhow::Result<bool> {
         }
         ["pairs", bytes, expected] => {
             let bytes = bytes_of(heap, bytes)?;
-            let text = text_of(bytes.as_slice())?;
+            let Ok(text) = Checked::try_from(bytes.as_slice()) else {
+                return Ok(false);
+            };
             let expected = expected.parse::<usize>()?;
             Ok(pairs_agree::<Word>(text, expected) && pairs_agree::<Lanes16>(text, expected))
         }
@@ -91,16 +105,8 @@ pub fn agrees(heap: Global, line: &str) -> anyhow::Result<bool> {
             );
             Ok(format!(in heap; "{breaks},{passed}")?.as_str() == expected)
         }
-        ["word", head, bytes, expected] => {
-            let bytes = bytes_of(heap, bytes)?;
-            let answer = chars::count::<Word, _>(bytes.as_slice(), head.parse::<usize>()?);
-            Ok(told(heap, answer.err())?.as_str() == expected)
-        }
-        ["array", head, bytes, expected] => {
-            let bytes = bytes_of(heap, bytes)?;
-            let answer = chars::count::<Lanes16, _>(bytes.as_slice(), head.parse::<usize>()?);
-            Ok(told(heap, answer.err())?.as_str() == expected)
-        }
+        ["word", head, bytes, expected] => counts_so::<Word>(heap, head, bytes, expected),
+        ["array", head, bytes, expected] => counts_so::<Lanes16>(heap, head, bytes, expected),
         [question, module, bytes, at, expected] => {
             let ask = Ask {
                 question: question.parse()?,
