@@ -28,7 +28,7 @@ pub fn separator_at(text: &[u8], place: usize) -> bool
     pair_at(text, place, 0xE2, 0x80) && byte_at(text, place + 2) >> 1 == 0x54
 }
 
-// Whether a char may begin at a place of a text.
+// Whether a char may begin at a place of a text. Apart from `char_ends` of the measures: place 0 counts, and of any bytes.
 pub fn is_char_start(text: &[u8], place: usize) -> bool
     ensures { result ≡ char_start text.now place }
 {

@@ -6,6 +6,7 @@ mod kind;
 mod play;
 
 use crate::case::{Case, Step, read_case};
+use crate::kind::Shown;
 use crate::play::agrees;
 use lanes::Lanes16;
 use std::{fmt, fs};
@@ -46,18 +47,25 @@ impl fmt::Display for Tally {
     }
 }
 
-// Plays one case on both kinds, and prints it where one of them does not agree.
+// Whether a kind answers a case as expected; where it does not, prints so.
+fn play_on<K: Shown>(
+    rt: &HostRuntime,
+    kind: &str,
+    line: &str,
+    case: &Case,
+    expected: Option<&[u8]>,
+) -> anyhow::Result<bool> {
+    let agreed = agrees::<K>(case.step, case.x.as_slice(), case.y.as_slice(), expected);
+    if !agreed {
+        println!(rt; "the {kind} does not agree: {line}")?;
+    }
+    Ok(agreed)
+}
+
+// Plays one case on both kinds.
 fn play_case(rt: &HostRuntime, line: &str, case: &Case, tally: &mut Tally) -> anyhow::Result<()> {
-    let x = case.x.as_slice();
-    let y = case.y.as_slice();
-    let word = agrees::<Word>(case.step, x, y, case.eight.as_deref());
-    let lanes = agrees::<Lanes16>(case.step, x, y, case.sixteen.as_deref());
-    if !word {
-        println!(rt; "the word does not agree: {line}")?;
-    }
-    if !lanes {
-        println!(rt; "the array does not agree: {line}")?;
-    }
+    let word = play_on::<Word>(rt, "word", line, case, case.eight.as_deref())?;
+    let lanes = play_on::<Lanes16>(rt, "array", line, case, case.sixteen.as_deref())?;
     tally.cases = tally.cases.wrapping_add(1);
     tally.word = tally.word.wrapping_add(word as usize);
     tally.lanes = tally.lanes.wrapping_add(lanes as usize);
