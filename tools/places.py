@@ -116,7 +116,7 @@ def main():
     proofs = [n for n in proofs if re.fullmatch(r"crates/\w+/proofs/.*\.antt", n)]
     lines = Counter()
     for n in proofs:
-        lines[n.split("/")[1]] += len(git("show", f"{commit or 'HEAD'}:{n}").split("\n"))
+        lines[n.split("/")[1]] += git("show", f"{commit or 'HEAD'}:{n}").count("\n")
     answers = [n for n in proofs if n.endswith("/Answers.antt")]
     print(f"## 8 proofs: {len(proofs)} files, {len(answers)} of them answers, {sum(lines.values())} lines")
     print("  " + ", ".join(f"{c} {n}" for c, n in sorted(lines.items())))

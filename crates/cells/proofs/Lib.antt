@@ -3,4 +3,3 @@ pub mod Sums
 pub mod Places
 pub mod Starts
 pub mod Walks
-pub mod Ranges

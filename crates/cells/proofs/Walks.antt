@@ -1,30 +1,20 @@
 -- What the plain walks come to, and what one more place adds. Assumes nothing.
-use Rattle.std.proofs.Common.{◌≡◌, ℕ, ◌+◌, ◌<◌, ◌≤◌, min, Bool, true, List, map, length, sym, refl, ap, ◌∙◌, subst, ⊎_elim, arith}
+use Rattle.std.proofs.Common.{◌≡◌, ℕ, ◌+◌, ◌<◌, ◌≤◌, min, Bool, true, List, length, sym, refl, ap, ◌∙◌, subst, ⊎_elim, arith}
 use Rattle.std.proofs.lemmas.Bool.{cases_lt}
-use Rattle.std.specs.List.{range_with_len, sum}
 use Rattle.utf8.specs.FirstFault.{is_text}
 use Rattle.utf8.proofs.Means.{text_from_test}
 use Rattle.cells.specs.Cells.{Lawful, index, count, start, last_within}
 use Rattle.cells.specs.Starts.{OnlyStart}
-use Rattle.cells.proofs.Ranges.{sum_places}
 use Rattle.cells.proofs.Places.{sum_next, last_yes, last_light, last_stop}
 use Rattle.cells.proofs.Starts.{weight_zero, index_past, index_most, index_two, start_in, start_past, only_start}
 
 module _ {ends : List ℕ → ℕ → Bool} {weight : List ℕ → ℕ → ℕ} (laws : Lawful ends weight) (t : List ℕ) (sound : is_text t ≡ true) where
-  -- the weights at the places up to n
-  summed : (n : ℕ) → sum (map (weight t) (range_with_len 1 n)) ≡ index weight t n
-  summed n = sum_places (weight t) (weight_zero laws t (text_from_test t sound)) n
+  -- a walk that sums: by place p this weight has ended
+  pub record Summed (p sum : ℕ) : Type 0 where
+    pub is : sum ≡ index weight t p
 
-  pub few : (n : ℕ) → sum (map (weight t) (range_with_len 1 n)) ≤ length t + length t
-  few n = omega (arith, summed n, index_two laws t (text_from_test t sound) n)
-
-  -- a place past the length stands for the length
-  pub clipped : (place n : ℕ) → n ≡ min place (length t) → sum (map (weight t) (range_with_len 1 n)) ≡ index weight t place
-  clipped place n e =
-      ⊎_elim
-      (λ (lt : place < length t). let q : n ≡ place = omega arith in summed n ∙ ap (index weight t) q)
-      (λ (ge : length t ≤ place). let q : n ≡ length t = omega arith in summed n ∙ ap (index weight t) q ∙ sym (index_past laws t (text_from_test t sound) place ge))
-      (cases_lt place (length t))
+  pub none_yet : Summed 0 0
+  none_yet = record { is = sym (weight_zero laws t (text_from_test t sound)) }
 
   -- a walk that looks for the start of k has come to place p: before it no more than k has ended, and at `best` the last
   -- that weighs
@@ -40,6 +30,21 @@ module _ {ends : List ℕ → ℕ → Bool} {weight : List ℕ → ℕ → ℕ} 
   nothing_yet k = record { before = 0; next = omega arith; in_text = omega arith; is = sym (weight_zero laws t (text_from_test t sound)); low = omega arith; last = refl }
 
 module _ {ends : List ℕ → ℕ → Bool} {weight : List ℕ → ℕ → ℕ} {laws : Lawful ends weight} {t : List ℕ} {sound : is_text t ≡ true} where
+  module _ {p sum w : ℕ} (old : Summed laws t sound p sum) (more : w ≡ weight t (p + 1)) where
+    pub one_more : Summed laws t sound (p + 1) (sum + w)
+    one_more = record { is = let s = sum_next (weight t) p in omega (arith, old.is) }
+
+    pub few : sum + w ≤ length t + length t
+    few = let b = index_two laws t (text_from_test t sound) (p + 1) in omega (arith, one_more.is)
+
+  -- a walk up to the place b, or to the length where that comes first
+  pub walked : {p sum : ℕ} → Summed laws t sound p sum → (b e : ℕ) → e ≡ min b (length t) → p ≤ e → e ≤ p → sum ≡ index weight t b
+  walked {p} old b e is l h =
+      ⊎_elim
+      (λ (lt : b < length t). let q : p ≡ b = omega arith in old.is ∙ ap (index weight t) q)
+      (λ (ge : length t ≤ b). let q : p ≡ length t = omega arith in old.is ∙ ap (index weight t) q ∙ sym (index_past laws t (text_from_test t sound) b ge))
+      (cases_lt b (length t))
+
   module _ {k p sum best w : ℕ} (old : Sofar laws t sound k p sum best) (h : p ≤ length t) (more : w ≡ weight t p) where
     weighs : w ≡ weight t (old.before + 1)
     weighs = more ∙ ap (weight t) old.next

@@ -17,9 +17,12 @@ pub fn count<M: Measure>(measure: &M, text: Checked<'_>) -> usize
 pub fn index<M: Measure>(measure: &M, text: Checked<'_>, place: usize) -> usize
     ensures { result ≡ index M.Measure.weight text.entry.bytes.now place }
 {
-    (1..=place.min(text.len()))
-        .map(|p| measure.weight_at(text, p))
-        .sum()
+    let mut sum = 0;
+    // no chain: by one, LF takes 2.4 times as long
+    for p in 0..place.min(text.len()) {
+        sum += measure.weight_at(text, p + 1);
+    }
+    sum
 }
 
 // Where index k begins: the length if k is above the count, else the end of the shortest run of first cells that

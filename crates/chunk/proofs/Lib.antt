@@ -1,4 +1,5 @@
 pub mod Rows
+pub mod Loops
 pub mod Digits
 pub mod Moves
 pub mod Packed

@@ -3,7 +3,7 @@
 use Rattle.std.proofs.Common.{◌≡◌, ℕ, zero, suc, ◌+◌, ◌-◌, ◌*◌, ◌/◌, ◌%◌, ◌^◌, ◌<◌, ◌≤◌, ◌∷◌, ◌++◌, get_or, take, drop, replicate, sym, refl, ap, ◌∙◌, subst, not-suc-le-zero, mul_assoc, suc-mul, mul_comm, add-mul, suc-add, pow-suc, zero-add, div-one, add-one, arith, pow-add}
 use native.Mathlib.Nat.{pow-zero, div-div-eq-div-mul, div-eq_of_lt}
 use lib.Pow.{mod-mod-pow}
-use lib.Bits.{bit_or, or_shifted_r}
+use lib.Bits.{bit_and, bit_or, and_mask, or_shifted_r}
 use Rattle.std.proofs.lemmas.Nat.{field_of, one_shl, mod-mul-add, mod_below, div_below, div-add-mod'}
 use Rattle.std.proofs.lemmas.List.{take_at}
 use Rattle.chunk.specs.Rows.{bytes_of, moved_back, upper_bits, without_top}
@@ -68,6 +68,8 @@ bytes_back n k w h small =
     ∙ ap (λ t. drop k (bytes_of t w) ++ replicate k 0) km
 
 -- `>> 8 * k & 255`
+pub bytes_lane : (n k w : ℕ) → k < n → bit_and (w / 2 ^ (k * 8)) 255 ≡ get_or (bytes_of n w) k 0
+bytes_lane n k w h = and_mask (w / 2 ^ (k * 8)) 8 ∙ ap (λ t. w / t % 256) (pow_lanes k) ∙ sym (bytes_at n k w h)
 
 -- ---- a shift by bits within the lanes
 

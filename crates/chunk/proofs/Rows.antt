@@ -6,7 +6,7 @@ use lib.Lanes.{zip2, Each1, Each2, chunk, all_below}
 use lib.Bits.{bit_and, and_le_l}
 use mir.Val.{bool_byte}
 use Rattle.std.proofs.lemmas.Simd.{length-chunk, Each1-chunk, Each1-replicate, Each1-from_get_or, length-zip2, get_or-zip2, Each1-zip2, Each1-get_or}
-use Rattle.std.proofs.lemmas.List.{get_or-map, get_or_append_left, get_or-append_right, get_or-drop, get_or-take, get_or-replicate, get_or_past}
+use Rattle.std.proofs.lemmas.List.{get_or-map, get_or_append_left, get_or-append_right, get_or-drop, get_or-take, get_or-replicate, get_or_past, drop_all}
 use Rattle.std.proofs.lemmas.Nat.{shr_below, shr_le}
 use Rattle.std.proofs.lemmas.Bool.Decides.{nat_tests, leb_tells}
 use Rattle.chunk.specs.Rows.{Row, is_row, moved_back, upper_bits, without_top}
@@ -178,6 +178,10 @@ back_at {n = n} {k = k} {i = i} {row = row} h r lt =
     lt_or_le a b = ⊎_elim (λ t. inl t.1) (λ t. inr (le_of_suc-le-suc t.1)) (leb_tells (suc a) b)
 
 -- back by every lane leaves 0 alone
+pub back_whole : {n k : ℕ} {row : List ℕ} → Row n row → k ≡ n → replicate n 0 ≡ moved_back k row
+back_whole {n = n} {k = k} {row = row} r e =
+    let l : length row ≡ n = r.long in
+    ap (λ t. replicate t 0) (sym e) ∙ ap (λ t. t ++ replicate k 0) (sym (drop_all k row (omega arith)))
 
 pub across_at : {m i : ℕ} (x : ℕ) (next : List ℕ) → 1 ≤ i → i < suc m → get_or (x ∷ take m next) i 0 ≡ get_or next (i - 1) 0
 across_at {m = m} {i = i} x next = at i

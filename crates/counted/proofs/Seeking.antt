@@ -28,6 +28,10 @@ part t from to i h =
     let l : i < to - from = omega (arith, length-take (to - from) (drop from t)) in
     record { below = l; inside = omega (arith, length-take (to - from) (drop from t), length-drop from t); is = get_or-chunk from (to - from) t i 0 l }
 
+-- past its last byte, a part is done
+pub part_end : (t : List ℕ) (from to i : ℕ) → to ≤ length t → i ≤ length (take (to - from) (drop from t)) → length (take (to - from) (drop from t)) ≤ i → i ≡ to - from
+part_end t from to i w h k = omega (arith, length-take (to - from) (drop from t), length-drop from t)
+
 -- a walk with the two bytes before its place at hand
 pub record Walking (hit : Rule) (weight : List ℕ → ℕ → ℕ) (t : List ℕ) (k p n far near : ℕ) : Type 0 where
   pub so : Reached hit weight t k p n
@@ -89,21 +93,28 @@ module _ {ends : List ℕ → ℕ → Bool} {weight : List ℕ → ℕ → ℕ} 
         (cases_lt (start weight t k) p))
         (cases_lt (count weight t) k)
 
-  -- where a walk is at byte i of the part from a place to another, and s says whether that byte's place lies inside a cell
+  -- where a walk is at a place, of whose byte s says whether its place lies inside a cell: what has ended is what is
+  -- counted, without that cell
+  module _ {k p n far near : ℕ} (w : Walking hit weight t k p n far near) {byte : ℕ} (is : byte ≡ get_or t p 0) {s : Bool} (es : s ≡ split near byte) where
+    split_at : bool_byte s ≡ ahead split t p
+    split_at =
+        let e : s ≡ split (back 1 t p) (back 0 t p) = cc (es, w.first, is) in
+        ap bool_byte e ∙ flag_byte (split (back 1 t p) (back 0 t p))
+
+    pub ended_before : bool_byte s ≤ n
+    ended_before = omega (arith, reached_index w.so, split_at)
+
+    pub ended_at : n - bool_byte s ≡ index weight t p
+    ended_at = omega (arith, reached_index w.so, split_at)
+
+  -- the same at byte i of the part from a place to another
   module _ (from to : ℕ) {k i n far near : ℕ} (w : Walking hit weight t k (from + i) n far near) (h : i < length (take (to - from) (drop from t)))
       {s : Bool} (es : s ≡ split near (get_or (take (to - from) (drop from t)) i 0)) where
-    split_here : bool_byte s ≡ ahead split t (from + i)
-    split_here =
-        let is = (part t from to i h).is in
-        let e : s ≡ split (back 1 t (from + i)) (back 0 t (from + i)) = cc (es, w.first, is) in
-        ap bool_byte e ∙ flag_byte (split (back 1 t (from + i)) (back 0 t (from + i)))
-
-    -- what has ended is what is counted, without the cell that the place lies in
     pub ended_fits : bool_byte s ≤ n
-    ended_fits = omega (arith, reached_index w.so, split_here)
+    ended_fits = ended_before w (part t from to i h).is es
 
     pub ended_is : n - bool_byte s ≡ index weight t (from + i)
-    ended_is = omega (arith, reached_index w.so, split_here)
+    ended_is = ended_at w (part t from to i h).is es
 
     -- where b says whether the byte counts
     module _ {b : Bool} (eb : b ≡ hit far near (get_or (take (to - from) (drop from t)) i 0)) where

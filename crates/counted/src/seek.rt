@@ -62,6 +62,7 @@ impl<'a, C: Counted> Way<'a, C> {
         requires within { to ≤ length self.text.now }
         ensures text { result.text.now ≡ self.entry.text.now }
         ensures k { result.k ≡ self.entry.k }
+        ensures within { result.place ≤ to }
         ensures stop { result.place < to → index C.Counted.weight result.text.now result.place ≡ result.k }
     {
         let mut far = byte_back(self.text, 2, self.place);

@@ -1,6 +1,6 @@
 // The whole of what the program prints: a line for each record, up to the first refusal.
 ghost use Rattle.std.specs.Prelude.{◌≡◌, ◌++◌, IfOk, None, OnOk, Some, string_bytes, MatchResult};
-ghost use Rattle.cue.specs.Prints.{line_of, not_admitted, too_large, OnlyPrints};
+ghost use Rattle.cue.specs.Prints.{line_of, refused_line, not_admitted, too_large, OnlyPrints};
 ghost use Rattle.cue.specs.Steps.{Played, Ran};
 
 use crate::place::place_of;
@@ -45,6 +45,12 @@ fn add_line(out: &mut String, number: usize, cue: Cue, place: usize) -> Result<(
     writeln!(out, "{number} {kind} {place}")
 }
 
+fn add_refusal(out: &mut String, fault: Fault) -> Result<(), AllocError>
+    ensures { OnOk result (string_bytes out.new ≡ string_bytes out.old ++ refused_line fault) }
+{
+    writeln!(out, "{fault}")
+}
+
 // Adds the line of each record, up to one that is refused.
 fn play(out: &mut String, text: Checked<'_>, cues: &[u8]) -> Result<(), Stop>
     ensures { Played text.entry.bytes.now cues.now (string_bytes out.old) result (string_bytes out.new) }
@@ -76,7 +82,7 @@ pub fn transcript(heap: Global, text: &[u8], cues: &[u8]) -> Result<String, Allo
     match run(&mut out, text, cues) {
         Ok(()) => Ok(out),
         Err(Stop::Refused(fault)) => {
-            writeln!(out, "{fault}")?;
+            add_refusal(&mut out, fault)?;
             Ok(out)
         }
         Err(Stop::NoMemory(error)) => Err(error),

@@ -87,11 +87,10 @@ impl ByteChunk for Lanes16 {
     }
 
     fn shift_across(self, other: Lanes16) -> Lanes16 {
-        Lanes16::from_fn(|i| if i == 0 {
-            self.bytes[LAST]
-        } else {
-            other.bytes[i - 1]
-        })
+        // no `from_fn`, which asks at each lane whether it is the first
+        let mut bytes = [self.bytes[LAST]; SIZE];
+        bytes[1..].copy_from_slice(&other.bytes[..LAST]);
+        Lanes16 { bytes }
     }
 
     fn shr(self, n: usize) -> Lanes16 {

@@ -2,6 +2,7 @@ pub mod Counts
 pub mod Flags
 pub mod Edges
 pub mod Lanes
+pub mod Last
 pub mod Pending
 pub mod Rounds
 pub mod Rest

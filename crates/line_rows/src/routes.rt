@@ -130,6 +130,7 @@ impl<'a> Way<'a> {
         requires few { rows ≤ K.MAX_ACC }
         ensures text { result.text.now ≡ self.entry.text.now }
         ensures k { result.k ≡ self.entry.k }
+        ensures stops { result.place + rows * K.SIZE ≤ length result.text.now → result.k ≤ breaks_in result.text.now (result.place + rows * K.SIZE) }
     {
         let step = rows * K::SIZE;
         let mut way = self;

@@ -56,7 +56,8 @@ impl<'a, K: ByteChunk> TextRow<'a, K> {
         }
     }
 
-    // Where two bytes begin in the row.
+    // Where two bytes begin in the row. Inlined, so that a row of sixteen bytes stays in registers.
+    #[inline(always)]
     fn pairs(&self, first: u8, second: u8) -> K
         requires first { 0 < first }
         requires second { 0 < second }

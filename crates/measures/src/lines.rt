@@ -18,6 +18,9 @@ pub struct Unicode;
 
 pub type Lines = Lined<Unicode>;
 
+// The value of that name, for a walk to borrow.
+pub const Lines: Lines = Lined(Unicode);
+
 // 1 at the last byte of each LS and PS, 0 at any other byte.
 #[tactic(auto, using(crate::proofs::Flags::separators_row))]
 fn separators<K: ByteChunk>(far: K, near: K, row: K) -> K

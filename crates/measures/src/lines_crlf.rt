@@ -16,6 +16,9 @@ pub struct CrLf;
 
 pub type LinesCrlf = Lined<CrLf>;
 
+// The value of that name, for a walk to borrow.
+pub const LinesCrlf: LinesCrlf = Lined(CrLf);
+
 impl Scan for CrLf {
     ghost hit = { crlf_hit };
 

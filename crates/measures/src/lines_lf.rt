@@ -16,6 +16,9 @@ pub struct Lf;
 
 pub type LinesLf = Lined<Lf>;
 
+// The value of that name, for a walk to borrow.
+pub const LinesLf: LinesLf = Lined(Lf);
+
 impl Scan for Lf {
     ghost hit = { lf_hit };
 

@@ -93,12 +93,31 @@ pub struct Case {
     pub sixteen: Option<Vec<u8>>,
 }
 
+// By hand, since the table has digits in upper case alone, which the library's readers do not ask for.
+fn digit(byte: u8) -> anyhow::Result<u8> {
+    match byte {
+        b'0'..=b'9' => Ok(byte - b'0'),
+        b'A'..=b'F' => Ok(byte - b'A' + 10),
+        _ => Err(anyhow!("a word is not in hex")),
+    }
+}
+
 // The bytes that a word of hex digits stands for; none for `-`.
 fn read_answer(heap: Global, word: &str) -> anyhow::Result<Option<Vec<u8>>> {
     if word == "-" {
         return Ok(None);
     }
-    Ok(Some(hex::decode(heap, word)?))
+    let pairs = word.as_bytes().chunks_exact(2);
+    let last = pairs.remainder();
+    let mut bytes = Vec::new(heap);
+    for pair in pairs {
+        bytes.push(digit(pair[0])? << 4 | digit(pair[1])?)?;
+    }
+    if let [half] = *last {
+        digit(half)?;
+        return Err(anyhow!("half a byte"));
+    }
+    Ok(Some(bytes))
 }
 
 // The same for an operand, which `-` leaves empty.
@@ -106,8 +125,10 @@ fn read_operand(heap: Global, word: &str) -> anyhow::Result<Vec<u8>> {
     Ok(read_answer(heap, word)?.unwrap_or_else(|| Vec::new(heap)))
 }
 
+// A word that is left out stands for `-`, and those past the fifth say nothing.
 pub fn read_case(heap: Global, line: &str) -> anyhow::Result<Case> {
-    let words: Vec<&str> = line.split_whitespace().collect(heap)?;
+    let mut words: Vec<&str> = line.split_whitespace().take(5).collect(heap)?;
+    words.resize(5, "-")?;
     let [step, x, y, eight, sixteen] = *words.as_slice() else {
         return Err(anyhow!("a case has five words"));
     };

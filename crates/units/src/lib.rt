@@ -78,6 +78,7 @@ impl<'a> Way<'a> {
         requires within { to ≤ length self.text.now }
         ensures text { result.text.now ≡ self.entry.text.now }
         ensures k { result.k ≡ self.entry.k }
+        ensures within { result.place ≤ to }
         ensures stop { result.place < to → result.k < begun result.text.now (result.place + 1) }
     {
         let mut count = self.count;

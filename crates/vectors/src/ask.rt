@@ -5,11 +5,10 @@ use cells::walk::{count, index, start};
 use chunk::ByteChunk;
 use faults::count::Fault;
 use lanes::Lanes16;
-use measures::breaks::Lined;
 use measures::chars::Chars;
-use measures::lines::Unicode;
-use measures::lines_crlf::CrLf;
-use measures::lines_lf::Lf;
+use measures::lines::Lines;
+use measures::lines_crlf::LinesCrlf;
+use measures::lines_lf::LinesLf;
 use measures::utf16::Utf16;
 use std::str::FromStr;
 use str_indices::{chars, lines, lines_crlf, lines_lf, utf16};
@@ -63,7 +62,7 @@ impl FromStr for Module {
             "lines" => Ok(Module::Lines),
             "lines_crlf" => Ok(Module::LinesCrlf),
             "lines_lf" => Ok(Module::LinesLf),
-            _ => Err(anyhow!("no such module")),
+            _ => Err(anyhow!("no such measure")),
         }
     }
 }
@@ -133,9 +132,9 @@ impl Ask {
         match self.module {
             Module::Chars => self.by_measure(&Chars, text),
             Module::Utf16 => self.by_measure(&Utf16, text),
-            Module::Lines => self.by_measure(&Lined(Unicode), text),
-            Module::LinesCrlf => self.by_measure(&Lined(CrLf), text),
-            Module::LinesLf => self.by_measure(&Lined(Lf), text),
+            Module::Lines => self.by_measure(&Lines, text),
+            Module::LinesCrlf => self.by_measure(&LinesCrlf, text),
+            Module::LinesLf => self.by_measure(&LinesLf, text),
         }
     }
 }

@@ -70,33 +70,36 @@ fn printed(heap: Global, text: &[u8], cues: &[u8]) -> anyhow::Result<String> {
     Ok(word)
 }
 
-// Whether the answer is the one that is expected.
+// Whether the answer is the one that is expected. A word that is left out stands for `-`, or for `0` if it is the fourth
+// or the fifth; those past the last that a question takes say nothing.
 pub fn agrees(heap: Global, line: &str) -> anyhow::Result<bool> {
-    let words: Vec<&str> = line.split_whitespace().collect(heap)?;
+    let mut words: Vec<&str> = line.split_whitespace().collect(heap)?;
+    words.resize(words.len().max(3), "-")?;
+    words.resize(words.len().max(5), "0")?;
     match *words.as_slice() {
-        ["check", bytes, expected] => {
+        ["check", bytes, expected, ..] => {
             let bytes = bytes_of(heap, bytes)?;
             Ok(told(heap, check(bytes.as_slice()).err())?.as_str() == expected)
         }
-        ["held", good, bad] => {
+        ["held", good, bad, ..] => {
             let good = bytes_of(heap, good)?;
             let bad = bytes_of(heap, bad)?;
             Ok(held_good(good.as_slice(), bad.as_slice()))
         }
-        ["cues", text, cues, expected] => {
+        ["cues", text, cues, expected, ..] => {
             let text = bytes_of(heap, text)?;
             let cues = bytes_of(heap, cues)?;
             Ok(printed(heap, text.as_slice(), cues.as_slice())?.as_str() == expected)
         }
-        ["pairs", bytes, expected] => {
+        ["pairs", bytes, expected, ..] => {
             let bytes = bytes_of(heap, bytes)?;
+            let expected = expected.parse::<usize>()?;
             let Ok(text) = Checked::try_from(bytes.as_slice()) else {
                 return Ok(false);
             };
-            let expected = expected.parse::<usize>()?;
             Ok(pairs_agree::<Word>(text, expected) && pairs_agree::<Lanes16>(text, expected))
         }
-        ["up_to", bytes, max_bytes, max_breaks, expected] => {
+        ["up_to", bytes, max_bytes, max_breaks, expected, ..] => {
             let bytes = bytes_of(heap, bytes)?;
             let (breaks, passed) = count_breaks_up_to(
                 bytes.as_slice(),
@@ -105,17 +108,19 @@ pub fn agrees(heap: Global, line: &str) -> anyhow::Result<bool> {
             );
             Ok(format!(in heap; "{breaks},{passed}")?.as_str() == expected)
         }
-        ["word", head, bytes, expected] => counts_so::<Word>(heap, head, bytes, expected),
-        ["array", head, bytes, expected] => counts_so::<Lanes16>(heap, head, bytes, expected),
-        [question, module, bytes, at, expected] => {
-            let ask = Ask {
-                question: question.parse()?,
-                module: module.parse()?,
-                at: at.parse::<usize>()?,
-            };
+        ["word", head, bytes, expected, ..] => counts_so::<Word>(heap, head, bytes, expected),
+        ["array", head, bytes, expected, ..] => counts_so::<Lanes16>(heap, head, bytes, expected),
+        [question, module, bytes, at, expected, ..] => {
+            let question = question.parse()?;
             let bytes = bytes_of(heap, bytes)?;
-            let text = text_of(bytes.as_slice())?;
+            let at = at.parse::<usize>()?;
             let expected = expected.parse::<usize>()?;
+            let text = text_of(bytes.as_slice())?;
+            let ask = Ask {
+                question,
+                module: module.parse()?,
+                at,
+            };
             Ok(
                 ask.by_bytes(text)? == expected
                     && ask.every_head::<Word>(text, expected)

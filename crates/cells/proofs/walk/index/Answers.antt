@@ -1,19 +1,15 @@
-use Rattle.std.proofs.Common.{◌∙◌, rules, arith}
-use Rattle.std.proofs.lemmas.Iterator.{YieldsList-from_map}
-use Rattle.std.proofs.lemmas.Iterator.Consumers.{YieldsList-at, sum_from_yields_List, fits_from_yields_list}
-use Rattle.cells.proofs.Ranges.{one_to}
-use Rattle.cells.proofs.Walks.{few, clipped}
+use Rattle.std.proofs.Common.{arith, rules}
+use Rattle.cells.proofs.Walks.{none_yet, one_more, few, walked}
 use Rattle.cells.proofs.walk.index.Goals as goal
 
-pub sum-requires-clause-fits : goal.sum-requires-clause-fits
-sum-requires-clause-fits g c =
-    let b = few g.met.M.Measure.lawful c.args.text.bytes.now c.args.text.sound c.min.result in
-    fits_from_yields_list c.map.result _
-    (YieldsList-from_map _ (g.M.Measure.weight c.args.text.bytes.now) (YieldsList-at c.map.ensures.source (one_to c.min.result c.new.result c.new.ensures.start c.new.ensures.end c.new.ensures.exhausted)) c.map.ensures.closure (λ x r q k. search rules))
-    (omega (arith, c.ranges.text))
+pub loop-p-init : goal.loop-p-init
+loop-p-init g c = none_yet _ _ _
+
+pub overflow_add-sum : goal.overflow_add-sum
+overflow_add-sum g c = let b = few c.loop-p.invariant c.weight_at-sum.ensures in omega (arith, c.ranges.text)
+
+pub loop-p-preserved : goal.loop-p-preserved
+loop-p-preserved g c = one_more c.loop-p.invariant c.weight_at-sum.ensures
 
 pub returns : goal.returns
-returns g c =
-    sum_from_yields_List c.map.result _ c.sum.ensures.ran
-    (YieldsList-from_map _ (g.M.Measure.weight c.args.text.bytes.now) (YieldsList-at c.map.ensures.source (one_to c.min.result c.new.result c.new.ensures.start c.new.ensures.end c.new.ensures.exhausted)) c.map.ensures.closure (λ x r q k. search rules))
-    ∙ clipped g.met.M.Measure.lawful c.args.text.bytes.now c.args.text.sound c.args.place c.min.result (search rules)
+returns g c = walked c.loop-p.invariant c.args.place c.min-p-end.result (search rules) c.loop-p.auto.p-end c.loop-p-test.false
