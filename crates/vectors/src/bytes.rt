@@ -27,17 +27,17 @@ pub fn bytes_of(heap: Global, word: &str) -> anyhow::Result<Vec<u8>> {
         return Ok(bytes);
     }
     for piece in word.split(',') {
-        let Some((row, times)) = piece.split_once('*') else {
-            add_row(&mut bytes, piece)?;
-            continue;
-        };
-        let times = times.parse::<usize>()?;
-        if times > 0 {
-            // read once, however often it stands
-            let mut once = Vec::new(heap);
-            add_row(&mut once, row)?;
-            for _ in 0..times {
-                bytes.extend_from_slice(once.as_slice())?;
+        let (row, times) = piece.split_once('*').unwrap_or((piece, "1"));
+        match times.parse::<usize>()? {
+            0 => {}
+            1 => add_row(&mut bytes, row)?,
+            times => {
+                // read once, however often it stands
+                let mut once = Vec::new(heap);
+                add_row(&mut once, row)?;
+                for _ in 0..times {
+                    bytes.extend_from_slice(once.as_slice())?;
+                }
             }
         }
     }
