@@ -1,5 +1,5 @@
 -- Flags that add up within a byte, and flags that others are below, in lists of any length. Assumes nothing.
-use Rattle.std.proofs.Common.{◌≡◌, ℕ, zero, suc, ◌+◌, ◌-◌, ◌<◌, ◌≤◌, ◌&&◌, eqb, ltb, List, [], ◌∷◌, map, replicate, arith}
+use Rattle.std.proofs.Common.{ℕ, zero, suc, ◌+◌, ◌-◌, ◌<◌, ◌≤◌, ◌&&◌, eqb, ltb, List, [], ◌∷◌, map, replicate, arith}
 use lib.Lanes.{zip2, Each1, Each2}
 use lib.Bits.{bit_and, and_le_r}
 use Rattle.std.proofs.lemmas.Bool.Decides.{nat_tests}

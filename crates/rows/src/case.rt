@@ -129,6 +129,7 @@ fn read_operand(heap: Global, word: &str) -> anyhow::Result<Vec<u8>> {
 pub fn read_case(heap: Global, line: &str) -> anyhow::Result<Case> {
     let mut words: Vec<&str> = line.split_whitespace().take(5).collect(heap)?;
     words.resize(5, "-")?;
+    // there are five: the check wants the other case too
     let [step, x, y, eight, sixteen] = *words.as_slice() else {
         return Err(anyhow!("a case has five words"));
     };

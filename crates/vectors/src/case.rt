@@ -127,6 +127,7 @@ pub fn agrees(heap: Global, line: &str) -> anyhow::Result<bool> {
                     && ask.every_head::<Lanes16>(text, expected),
             )
         }
+        // five words stand here: the check wants the other case too
         _ => Err(anyhow!("no such question")),
     }
 }
